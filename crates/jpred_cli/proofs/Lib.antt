@@ -1,0 +1,12 @@
+pub mod Numbers
+pub mod Tokens
+pub mod Lexed
+pub mod Literals
+pub mod Statements
+pub mod Programs
+pub mod CodeSteps
+pub mod Prints
+pub mod Fronts
+pub mod Loads
+pub mod Joins
+pub mod Answering

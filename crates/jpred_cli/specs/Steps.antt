@@ -1,0 +1,62 @@
+-- The steps of `go`: reading the unit, putting the class file, running it. Each says what it gave and what it left.
+use Rattle.std.specs.Prelude.{◌≡◌, ℕ, ◌≤◌, ℤ, List, length, map, flat_map, Option, None, Result, Ok, Err}
+use Rattle.std.specs.Fmt.{signed_decimal}
+use Rattle.std.specs.Io.KnownBytes.{append_known}
+use Rattle.std.proofs.Common.{Vec, Global}
+use Rattle.jp_outside.specs.Faults.{Rose}
+use Rattle.jp_outside.specs.Bytes.{AppendsFront}
+use Rattle.jp_outside.specs.Files.{Files, Finds, put_known, OthersStay}
+use Rattle.class_form.specs.declared.class_file.ClassFile.{ClassFile}
+use Rattle.mini_jvm.specs.declared.value.End.TheVariants.{Done as EndDone}
+use Rattle.mini_jvm.specs.Run.{Finish}
+use Rattle.jpred_cli.specs.declared.ending.Ending.{Ending}
+use Rattle.jpred_cli.specs.declared.ending.Ending.TheVariants.{Done, NoCommand, NotYet, Missing, UnitFault, ClassFault, OutputFault, OutOfMemory}
+use Rattle.jpred_cli.specs.Built.{class_of}
+use Rattle.jpred_cli.specs.Form.{Literal, value_of}
+use Rattle.jpred_cli.specs.Lines.{class_file_name}
+use Rattle.jpred_cli.specs.Outcome.{HasProgram, HasNoProgram}
+
+-- the store is as it was
+abbrev pub StoreStays : Option Files → Option Files → ℕ → ℕ → Type 0
+StoreStays files files' faults faults' = (files' ≡ files) × (faults' ≡ faults)
+
+-- the numbers of the unit's program, or why there are none; the store stays but for the count of its faults
+abbrev pub UnitRead : List ℕ → List ℕ → Option Files → Option Files → ℕ → ℕ → Result (Vec ℤ Global) Ending → Type 0
+UnitRead main unit files files' faults faults' (Ok numbers) =
+    (literals : List Literal) × HasProgram files main unit literals × (numbers.items ≡ map value_of literals) × (length numbers.items ≤ 200) × StoreStays files files' faults faults'
+UnitRead main unit files files' faults faults' (Err NotYet) = HasNoProgram files main unit × StoreStays files files' faults faults'
+UnitRead main unit files files' faults faults' (Err Missing) = Finds files unit None × StoreStays files files' faults faults'
+UnitRead main unit files files' faults faults' (Err UnitFault) = Rose faults faults' × (files' ≡ files)
+UnitRead main unit files files' faults faults' (Err OutOfMemory) = StoreStays files files' faults faults'
+UnitRead main unit files files' faults faults' (Err Done) = ⊥
+UnitRead main unit files files' faults faults' (Err NoCommand) = ⊥
+UnitRead main unit files files' faults faults' (Err ClassFault) = ⊥
+UnitRead main unit files files' faults faults' (Err OutputFault) = ⊥
+
+-- the class file that was put, or why it wasn't
+abbrev pub ClassPut : List ℕ → List ℤ → Option Files → Option Files → ℕ → ℕ → Result ClassFile Ending → Type 0
+ClassPut main numbers files files' faults faults' (Ok file) =
+    (file ≡ class_of main numbers) × (bytes : List ℕ) × (files' ≡ put_known files (class_file_name main) bytes) × (faults' ≡ faults)
+ClassPut main numbers files files' faults faults' (Err ClassFault) = OthersStay files files' (class_file_name main) × Rose faults faults'
+ClassPut main numbers files files' faults faults' (Err OutOfMemory) = StoreStays files files' faults faults'
+ClassPut main numbers files files' faults faults' (Err Done) = ⊥
+ClassPut main numbers files files' faults faults' (Err NoCommand) = ⊥
+ClassPut main numbers files files' faults faults' (Err NotYet) = ⊥
+ClassPut main numbers files files' faults faults' (Err Missing) = ⊥
+ClassPut main numbers files files' faults faults' (Err UnitFault) = ⊥
+ClassPut main numbers files files' faults faults' (Err OutputFault) = ⊥
+
+-- what the run of the class wrote
+abbrev pub ClassRan : List ℤ → Option (List ℕ) → Option (List ℕ) → ℕ → ℕ → Ending → Type 0
+ClassRan numbers out out' faults faults' Done = (out' ≡ append_known out (flat_map signed_decimal numbers)) × (faults' ≡ faults)
+ClassRan numbers out out' faults faults' OutputFault = AppendsFront out out' (flat_map signed_decimal numbers) × Rose faults faults'
+ClassRan numbers out out' faults faults' OutOfMemory = AppendsFront out out' (flat_map signed_decimal numbers) × (faults' ≡ faults)
+ClassRan numbers out out' faults faults' NoCommand = ⊥
+ClassRan numbers out out' faults faults' NotYet = ⊥
+ClassRan numbers out out' faults faults' Missing = ⊥
+ClassRan numbers out out' faults faults' UnitFault = ⊥
+ClassRan numbers out out' faults faults' ClassFault = ⊥
+
+-- the run of the class: it ends, and writes each number in decimal
+abbrev pub printed : List ℤ → Finish
+printed numbers = record { end = EndDone; out = flat_map signed_decimal numbers }

@@ -1,0 +1,16 @@
+//! The command line as a library: what the words ask for, what it does to the devices, and the status.
+#![tactic(auto)]
+
+mod class_builder;
+mod class_writer;
+mod command;
+mod ending;
+mod form;
+mod report;
+mod top;
+mod words;
+
+pub use ending::Ending;
+pub use form::read_program;
+pub use top::jpred;
+pub use words::{Command, read_words};
