@@ -61,7 +61,6 @@ module _ (words : List (List ℕ)) (old new : Outside) (status : ℕ) (t t' : Op
   found_not files main unit unit' literals eu has none =
       let here = has.found in let there = subst (λ u. Finds (Some files) u None) (sym eu) none in let both = sym there ∙ here in cc
 
-
   runs_of : (ending : Ending) (main unit main' unit' : List ℕ) (files : Files) (literals : List Literal) → old.files ≡ Some files → IsRequest words (Go main unit) → HasProgram (Some files) main unit literals → Ended words main' unit' old new ending → (status ≡ status_of ending) ⊎ (status ≡ 9) → (status ≡ 0) ⊎ (status ≡ 8) ⊎ (status ≡ 9) ⊎ (status ≡ 12)
   runs_of ending main unit main' unit' files literals told asked has e (inr nine) = inr (inr (inl nine))
   runs_of Done main unit main' unit' files literals told asked has e (inl s) = inl s

@@ -1,8 +1,7 @@
 -- A text of tokens is what reading the tokens one after the other makes of it.
 use Rattle.std.proofs.Common.{◌≡◌, ℕ, List, [], ◌∷◌, ◌++◌, Option, Some, None, refl, sym, ap, subst, ◌∙◌}
-use Rattle.std.specs.Prelude.{option_and_then}
 use Rattle.std.specs.List.{AllByRecursion}
-use Rattle.jpred_cli.specs.Form.{Token, spelled, AllWhite, Begins, Lexed}
+use Rattle.jpred_cli.specs.Form.{Token, spelled, AllWhite, Lexed}
 use Rattle.jpred_cli.specs.Reading.{◌>>=◌, after, after_all}
 use Rattle.jpred_cli.proofs.Tokens.{IsUsual, token_at-begins, begins-token_at, after-token_at, token_at-after}
 

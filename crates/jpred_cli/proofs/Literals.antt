@@ -1,14 +1,13 @@
 -- A literal and a statement are read where their tokens stand, and nowhere else.
-use Rattle.std.proofs.Common.{◌≡◌, ℕ, ◌<◌, ◌≤◌, Bool, true, false, cond, List, [], ◌∷◌, ◌++◌, length, Option, Some, None, refl, sym, ap, subst, ◌∙◌, arith}
+use Rattle.std.proofs.Common.{◌≡◌, ℕ, ◌≤◌, Bool, true, false, cond, List, [], ◌∷◌, ◌++◌, Option, Some, None, refl, sym, ap, subst, ◌∙◌, arith}
 use Rattle.std.specs.Prelude.{codes, decimal, nat_le}
-use Rattle.std.specs.List.{AllByRecursion}
 use Rattle.std.proofs.lemmas.Bool.{cond-true, le-leb, leb-true, true≢false}
 use Rattle.std.proofs.lemmas.Option.{cond_some, same_Some}
-use Rattle.jpred_cli.specs.Characters.{is_white, is_word_byte}
-use Rattle.jpred_cli.specs.Form.{Token, Word, Number, Sign, spelled, Literal, IsLiteral, literal_tokens, print_tokens, close_tokens, end_tokens, statement_tokens}
+use Rattle.jpred_cli.specs.Characters.{is_word_byte}
+use Rattle.jpred_cli.specs.Form.{Word, Number, Sign, Literal, IsLiteral, literal_tokens, print_tokens, close_tokens, end_tokens, statement_tokens}
 use Rattle.jpred_cli.specs.Reading.{◌>>=◌, token_at, after, after_all, number_of, number_at, literal_behind, literal_at, statement_at}
 use Rattle.jpred_cli.proofs.Numbers.{number_of-decimal, decimal-number_of}
-use Rattle.jpred_cli.proofs.Tokens.{IsRun, IsRun-decimal, IsUsual, after-token_at, token_at-after, after-other}
+use Rattle.jpred_cli.proofs.Tokens.{IsRun, IsRun-decimal, after-token_at, token_at-after, after-other}
 use Rattle.jpred_cli.proofs.Lexed.{bind_some, bind_from, after_all-append}
 
 -- ---- numbers

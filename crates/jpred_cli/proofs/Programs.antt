@@ -1,15 +1,15 @@
 -- A program is the head of its class and a body.
-use Rattle.std.proofs.Common.{◌≡◌, ℕ, ◌<◌, ◌≤◌, Bool, true, false, ◌&&◌, List, [], ◌∷◌, ◌++◌, length, Option, Some, None, All, Contains, refl, sym, ap, subst, ◌∙◌, append_assoc, arith, map, ℤ}
+use Rattle.std.proofs.Common.{◌≡◌, ℕ, ◌<◌, Bool, true, false, List, [], ◌∷◌, ◌++◌, length, Option, Some, None, All, Contains, refl, sym, ap, subst, ◌∙◌, append_assoc, arith, map, ℤ}
 use Rattle.std.specs.Prelude.{codes, flat_map, Result, Ok, Err, IfOk, IfSome, IfNone, MatchOption}
 use Rattle.std.specs.List.{AllByRecursion, list_all}
 use Rattle.std.proofs.lemmas.Bool.{and_parts}
 use Rattle.std.proofs.lemmas.List.Elements.{recursion_from_All}
 use Rattle.jpred_cli.specs.Characters.{is_white, is_word_byte}
 use Rattle.jpred_cli.specs.Words.{IsName}
-use Rattle.jpred_cli.specs.Form.{Token, Word, Number, Sign, Literal, IsLiteral, value_of, Lexed, literal_tokens, print_tokens, close_tokens, head_tokens, end_tokens, statement_tokens, tokens_of, library_classes, IsProgram}
+use Rattle.jpred_cli.specs.Form.{Literal, IsLiteral, value_of, literal_tokens, print_tokens, close_tokens, head_tokens, end_tokens, statement_tokens, tokens_of, library_classes, IsProgram}
 use Rattle.jpred_cli.specs.Reading.{◌>>=◌, after_all}
 use Rattle.jpred_cli.specs.Body.{IsBody}
-use Rattle.jpred_cli.proofs.Tokens.{IsRun, IsUsual}
+use Rattle.jpred_cli.proofs.Tokens.{IsRun}
 use Rattle.jpred_cli.proofs.Lexed.{AllUsual, AllUsual-append, bind_some, bind_from, after_all-append, after_all-lexed, lexed-after_all}
 use Rattle.jpred_cli.proofs.Statements.{one_body}
 

@@ -1,12 +1,12 @@
 -- The statements in a row, and the end of the program behind them.
-use Rattle.std.proofs.Common.{◌≡◌, ◌≢◌, ℕ, ◌+◌, ◌<◌, ◌≤◌, List, [], ◌∷◌, ◌++◌, length, map, Option, Some, None, All, refl, sym, ap, subst, ◌∙◌, append_assoc, arith, inl, inr, ◌⊎◌}
+use Rattle.std.proofs.Common.{◌≡◌, ◌≢◌, ℕ, ◌<◌, ◌≤◌, List, [], ◌∷◌, ◌++◌, length, Option, Some, None, All, refl, sym, ap, subst, ◌∙◌, append_assoc, arith, inl, inr, ◌⊎◌}
 use Rattle.std.specs.Prelude.{flat_map}
 use Rattle.std.specs.List.{AllByRecursion}
 use Rattle.std.proofs.lemmas.List.{append-nil, flat_map_more, length-append, length_push}
-use Rattle.std.proofs.lemmas.List.Elements.{recursion_from_All, All-from_recursion, All-push, All-nil}
+use Rattle.std.proofs.lemmas.List.Elements.{recursion_from_All, All-push, All-nil}
 use Rattle.std.proofs.lemmas.Option.{same_Some}
 use Rattle.jpred_cli.specs.Form.{Literal, IsLiteral, AllWhite, statement_tokens, end_tokens}
-use Rattle.jpred_cli.specs.Reading.{◌>>=◌, after_all, statement_at}
+use Rattle.jpred_cli.specs.Reading.{after_all, statement_at}
 use Rattle.jpred_cli.specs.Body.{IsBody}
 use Rattle.jpred_cli.proofs.Lexed.{bind_some, bind_from, after_all-append}
 use Rattle.jpred_cli.proofs.Literals.{statement_at-after_all, after_all-statement_at, end_isnt_statement}

@@ -1,10 +1,9 @@
 -- What each step of the reader takes from the front of a text.
-use Rattle.std.specs.Prelude.{ℕ, ◌+◌, Bool, ◌&&◌, if◌then◌else◌, ◌==◌, nat_le, List, [], ◌∷◌, length, take, drop, slice_index, Option, Some, None, option_and_then, codes, decimal, bytes_eq, true, false}
+use Rattle.std.specs.Prelude.{ℕ, ◌+◌, ◌&&◌, if◌then◌else◌, ◌==◌, nat_le, List, [], ◌∷◌, length, take, drop, slice_index, Option, Some, None, option_and_then, codes, decimal, bytes_eq, true, false}
 use Rattle.std.specs.List.{prefix_len}
 use Rattle.std.specs.Str.Parse.{digits_value}
-use Rattle.std.specs.Str.{byte}
 use Rattle.jpred_cli.specs.Characters.{is_white, is_word_byte}
-use Rattle.jpred_cli.specs.Form.{Token, Word, Number, Sign, spelled, goes_on, Literal, print_tokens, close_tokens}
+use Rattle.jpred_cli.specs.Form.{Token, Sign, spelled, goes_on, Literal, print_tokens, close_tokens}
 use Rattle.jpred_cli.specs.declared.form.Numeral.{Numeral}
 
 infixl 10 ◌>>=◌

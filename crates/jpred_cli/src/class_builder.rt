@@ -7,7 +7,9 @@ use sqlite_items::Items;
 use std::alloc::{AllocError, Global};
 
 const LDC: u8 = 0x12;
+
 const INVOKESTATIC: u8 = 0xb8;
+
 const RETURN: u8 = 0xb1;
 
 /// The class with a `main` that prints the numbers in order.
@@ -40,11 +42,7 @@ fn utf8(alloc: Global, text: &[u8]) -> Result<Const, AllocError>
     Ok(Const::Utf8(Bytes::from_bytes(alloc, text)?))
 }
 
-fn constants_of(
-    alloc: Global,
-    main: &[u8],
-    numbers: &[i32],
-) -> Result<Items<Const>, AllocError>
+fn constants_of(alloc: Global, main: &[u8], numbers: &[i32]) -> Result<Items<Const>, AllocError>
     ensures { IfOk result (λ constants. constants ≡ fixed_constants main.now ++ map Integer numbers.now) }
 {
     let mut constants = fixed_constants_of(alloc, main)?;

@@ -124,7 +124,9 @@ fn put_code(out: &mut Vec<u8>, code: &Code, code_name: u16) -> Result<(), AllocE
     put_u2(out, code_name)?;
     let mut length = code.bytes.bytes().len().saturating_add(12);
     for attribute in code.attributes.as_slice() {
-        length = length.saturating_add(attribute.content.bytes().len()).saturating_add(6);
+        length = length
+            .saturating_add(attribute.content.bytes().len())
+            .saturating_add(6);
     }
     put_length(out, length)?;
     put_u2(out, code.max_stack)?;

@@ -14,3 +14,8 @@ pub use ending::Ending;
 pub use form::read_program;
 pub use top::jpred;
 pub use words::{Command, read_words};
+
+#[cfg(test)]
+mod form_tests;
+#[cfg(test)]
+mod row_tests;

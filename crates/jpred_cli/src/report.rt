@@ -7,7 +7,8 @@ ghost use Rattle.jpred_cli.specs.Lines.{status_of, line_of, Reports};
 use crate::Ending;
 use jp_outside::{Failed, Sink, write_all};
 
-const USAGE: &[u8] = b"usage: jpred compile U.jp | link M | run [--steps N] M | go [--steps N] M U.jp .. | gen K U.jp\n";
+const USAGE: &[u8] =
+    b"usage: jpred compile U.jp | link M | run [--steps N] M | go [--steps N] M U.jp .. | gen K U.jp\n";
 
 /// Writes the line of an ending to the diagnostics, and answers the status: that of the ending, or 9 where the
 /// line can't be written whole. It takes no memory.
@@ -51,7 +52,12 @@ fn write_line<D: Sink>(diag: &mut D, ending: Ending, main: &[u8], unit: &[u8]) -
     }
 }
 
-fn write_parts<D: Sink>(diag: &mut D, first: &[u8], second: &[u8], third: &[u8]) -> Result<(), Failed>
+fn write_parts<D: Sink>(
+    diag: &mut D,
+    first: &[u8],
+    second: &[u8],
+    third: &[u8],
+) -> Result<(), Failed>
     ensures whole { OnOk result (D.taken diag.new ≡ append_known (D.taken diag.old) (first.now ++ second.now ++ third.now)) }
     ensures front { AppendsFront (D.taken diag.old) (D.taken diag.new) (first.now ++ second.now ++ third.now) }
     ensures cause { HasCause (D.faults diag.old) (D.faults diag.new) result }

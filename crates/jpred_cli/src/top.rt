@@ -4,10 +4,10 @@ ghost use Rattle.jpred_cli.specs.Words.{IsRequest, NamesClass, request_of};
 ghost use Rattle.jpred_cli.specs.Outcome.{AskNothing, Answers, outside};
 ghost use Rattle.jpred_cli.specs.Answer.{IsStatus, WentSo, ShowsUsage, RunsPrograms};
 
+use crate::Ending;
 use crate::command::go;
 use crate::report::report;
 use crate::words::{Command, read_words};
-use crate::Ending;
 use jp_outside::{Sink, Source, Store};
 use std::alloc::Global;
 

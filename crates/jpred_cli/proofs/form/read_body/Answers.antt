@@ -3,10 +3,10 @@ use Rattle.std.proofs.lemmas.Int.{ints, to_z-of_z}
 use Rattle.std.proofs.lemmas.Bool.{both_ways}
 use Rattle.std.proofs.lemmas.List.{length-map, map_push}
 use Rattle.std.proofs.lemmas.Option.{same_Some, none-some}
-use Rattle.std.specs.Prelude.{Option, Some, None}
-use Rattle.jpred_cli.specs.Form.{AllWhite, Literal, value_of, end_tokens}
+use Rattle.std.specs.Prelude.{Some}
+use Rattle.jpred_cli.specs.Form.{AllWhite, value_of, end_tokens}
 use Rattle.jpred_cli.specs.Reading.{after_all, literal_of}
-use Rattle.jpred_cli.proofs.Statements.{nothing_read, read_more, body_ends, too_many, no_end}
+use Rattle.jpred_cli.proofs.Statements.{read_more, body_ends, too_many, no_end}
 use Rattle.jpred_cli.proofs.form.read_body.Goals as goal
 use Rattle.jpred_cli.proofs.form.read_body.Goals.{in_default-after_end-via-in-Some-after_end+else-is_blank, in_default-after_end-via-in_default-after_end}
 

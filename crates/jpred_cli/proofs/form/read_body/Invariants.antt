@@ -1,7 +1,5 @@
-use Rattle.std.proofs.Common.{◌≡◌, ◌≤◌, List, map, length, Some, All}
-use Rattle.std.specs.Prelude.{flat_map}
-use Rattle.jpred_cli.specs.Form.{Literal, IsLiteral, value_of, statement_tokens}
-use Rattle.jpred_cli.specs.Reading.{after_all}
+use Rattle.std.proofs.Common.{◌≡◌, List, map, length}
+use Rattle.jpred_cli.specs.Form.{Literal, value_of}
 use Rattle.jpred_cli.proofs.Statements.{IsRead}
 use Rattle.jpred_cli.proofs.form.read_body.Given as goal
 

@@ -1,5 +1,5 @@
-use Rattle.std.proofs.Common.{◌≡◌, List, ℤ, sym, ap, ◌∙◌, rules}
-use Rattle.std.specs.Prelude.{Contains, IfOk, Vec}
+use Rattle.std.proofs.Common.{sym, ap, ◌∙◌, rules}
+use Rattle.std.specs.Prelude.{Contains, IfOk}
 use Rattle.jpred_cli.specs.Form.{library_classes, head_tokens, IsProgram}
 use Rattle.jpred_cli.specs.Reading.{after_all}
 use Rattle.jpred_cli.proofs.Programs.{Prints, without_head, read_program_from_body, numbers_found, numbers_only, numbers_none}

@@ -1,7 +1,7 @@
 use Rattle.std.proofs.Common.{◌≡◌, ◌<◌, ◌≤◌, length, get_or, sym, ap, ◌∙◌, arith, Some, ℕ}
 use Rattle.std.proofs.lemmas.Bool.Decides.{nat_tests}
 use Rattle.jpred_cli.proofs.Numbers.{number_of-none, plain, AllDigits-decimal, decimal-value, number_of-large}
-use Rattle.jpred_cli.proofs.form.number_of.Goals as goal
+use Rattle.jpred_cli.proofs.form.numbers.number_of.Goals as goal
 
 pub returns-then-is_empty-clause-found : goal.returns-then-is_empty-clause-found
 returns-then-is_empty-clause-found c = sym (number_of-none c.args.digits.now (λ n fits e.

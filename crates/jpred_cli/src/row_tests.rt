@@ -1,0 +1,155 @@
+ghost use Rattle.jp_outside.specs.Files.{AreDistinct};
+
+use crate::jpred;
+use jp_outside::{MemSink, MemSource, MemStore, StoredFile};
+use std::alloc::{AllocError, Global};
+use std::process::Abort;
+use std::test::Fail;
+
+const ONE: &[u8] = b"class Main { static void main() { Io.print(7); Io.print(-2147483648); } }";
+
+const USAGE: &[u8] =
+    b"usage: jpred compile U.jp | link M | run [--steps N] M | go [--steps N] M U.jp .. | gen K U.jp\n";
+
+/// The devices of a row, and the calls at which they fail.
+#[derive(Drop)]
+struct Devices {
+    store: MemStore,
+    out: MemSink,
+    diag: MemSink,
+}
+
+/// The devices over one file, each with the one call at which it fails, where 0 is none.
+fn over_one_file(
+    alloc: Global,
+    name: &str,
+    text: &[u8],
+    fail: [u64; 3],
+) -> Result<Devices, AllocError> {
+    let file = StoredFile::new(name.to_string(alloc)?, text.to_vec(alloc)?);
+    Ok(Devices {
+        store: MemStore::new(vec![in alloc; file]?, vec![in alloc; fail[0]]?),
+        out: MemSink::new(alloc, 4096, vec![in alloc; fail[1]]?)?,
+        diag: MemSink::new(alloc, 4096, vec![in alloc; fail[2]]?)?,
+    })
+}
+
+/// Runs the words over the devices, and compares the status and what the two sinks took.
+fn expect(
+    rt: &impl Abort,
+    alloc: Global,
+    words: &[&str],
+    mut devices: Devices,
+    status: u8,
+    out: &[u8],
+    diag: &[u8],
+) -> Result<MemStore, Fail> {
+    let mut given = Vec::new(alloc);
+    for word in words {
+        given.push(word.to_string(alloc)?)?;
+    }
+    let mut input = MemSource::new(b"in".to_vec(alloc)?, Vec::new(alloc));
+    let answered = jpred(
+        alloc,
+        &given,
+        &mut devices.store,
+        &mut input,
+        &mut devices.out,
+        &mut devices.diag,
+    );
+    assert_eq!(rt; answered, status);
+    assert_eq!(rt; devices.out.taken(), out);
+    assert_eq!(rt; devices.diag.taken(), diag);
+    let Devices { store, .. } = devices;
+    Ok(store)
+}
+
+#[test]
+fn prints_run(rt: HostRuntime) -> Result<(), Fail> {
+    let alloc = rt.alloc();
+    let one = over_one_file(alloc, "one.jp", ONE, [0; 3])?;
+    let store = expect(
+        &rt,
+        alloc,
+        &["go", "Main", "one.jp"],
+        one,
+        0,
+        b"7-2147483648",
+        b"",
+    )?;
+    let files = store.files();
+    assert_eq!(rt; files.len(), 2);
+    assert_eq!(rt; files[0].name(), "one.jp");
+    assert_eq!(rt; files[0].bytes(), ONE);
+    assert_eq!(rt; files[1].name(), "Main.class");
+    assert!(rt;
+        files[1]
+            .bytes()
+            .starts_with(b"\xca\xfe\xba\xbe\x00\x00\x00\x30")
+    );
+    Ok(())
+}
+
+#[test]
+fn other_units_are_refused(rt: HostRuntime) -> Result<(), Fail> {
+    let alloc = rt.alloc();
+    let empty = over_one_file(alloc, "e.jp", b"", [0; 3])?;
+    expect(
+        &rt,
+        alloc,
+        &["go", "Main", "e.jp"],
+        empty,
+        3,
+        b"",
+        b"e.jp:1:1: NotYet\n",
+    )?;
+    let text = b"class Main { static void main() { Io.print(7) } }";
+    let unended = over_one_file(alloc, "m.jp", text, [0; 3])?;
+    expect(
+        &rt,
+        alloc,
+        &["go", "Main", "m.jp"],
+        unended,
+        3,
+        b"",
+        b"m.jp:1:1: NotYet\n",
+    )?;
+    let absent = over_one_file(alloc, "one.jp", ONE, [0; 3])?;
+    expect(
+        &rt,
+        alloc,
+        &["go", "Main", "x.jp"],
+        absent,
+        6,
+        b"",
+        b"missing x.jp\n",
+    )?;
+    let short = over_one_file(alloc, "one.jp", ONE, [0; 3])?;
+    expect(&rt, alloc, &["go", "Main"], short, 2, b"", USAGE)?;
+    Ok(())
+}
+
+#[test]
+fn devices_fail(rt: HostRuntime) -> Result<(), Fail> {
+    let alloc = rt.alloc();
+    let words = ["go", "Main", "one.jp"];
+    let unread = over_one_file(alloc, "one.jp", ONE, [1, 0, 0])?;
+    expect(&rt, alloc, &words, unread, 8, b"", b"store fault one.jp\n")?;
+    let unput = over_one_file(alloc, "one.jp", ONE, [2, 0, 0])?;
+    expect(
+        &rt,
+        alloc,
+        &words,
+        unput,
+        8,
+        b"",
+        b"store fault Main.class\n",
+    )?;
+    let unwritten = over_one_file(alloc, "one.jp", ONE, [0, 1, 0])?;
+    expect(&rt, alloc, &words, unwritten, 9, b"", b"output fault\n")?;
+    let cut = over_one_file(alloc, "one.jp", ONE, [0, 2, 0])?;
+    expect(&rt, alloc, &words, cut, 9, b"7", b"output fault\n")?;
+    let silent = over_one_file(alloc, "one.jp", ONE, [0, 0, 1])?;
+    expect(&rt, alloc, &["go"], silent, 9, b"", b"")?;
+    Ok(())
+}
