@@ -114,7 +114,7 @@ read_program_from_body items main text body name free head (Ok found) is = found
 read_program_from_body items main text body name free head (Err e) is = tt
 
 -- a program prints one list of literals
-one_program : (main text : List ℕ) (ls ks : List Literal) → IsName main → IsProgram main text ls → IsProgram main text ks → ks ≡ ls
+pub one_program : (main text : List ℕ) (ls ks : List Literal) → IsName main → IsProgram main text ls → IsProgram main text ks → ks ≡ ls
 one_program main text ls ks name p q =
     let a = body_from_program main text ls name p in
     let b = body_from_program main text ks name q in

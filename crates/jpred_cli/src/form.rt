@@ -1,7 +1,7 @@
 //! The programs that can be run so far: a class whose `main` prints whole numbers one after the
 //! other.
 
-ghost use Rattle.std.specs.Prelude.{◌≡◌, ◌<◌, ◌↔◌, List, map, length, option_map, IfOk, IfSome, IfNone, MatchOption, IsTrue, Contains};
+ghost use Rattle.std.specs.Prelude.{◌≡◌, ◌<◌, ◌↔◌, ℕ, List, map, length, option_map, IfOk, IfSome, IfNone, MatchOption, IsTrue, Contains};
 ghost use Rattle.jpred_cli.specs.Words.{IsName};
 ghost use Rattle.jpred_cli.specs.Form.{Literal, IsLiteral, IsProgram, value_of, library_classes, head_tokens, print_tokens, close_tokens, end_tokens};
 ghost use Rattle.jpred_cli.specs.Reading.{after_all, literal_at, statement_at, literal_of};
@@ -59,6 +59,12 @@ pub fn read_program(alloc: Global, main: &str, text: &[u8]) -> Result<Option<Vec
         Some(body) => read_body(alloc, body),
         None => Ok(None),
     }
+}
+
+/// A text is at most one program of a class with a name.
+pub fn one_reading()
+    ensures { (main text : List ℕ) (first second : List Literal) → IsName main → IsProgram main text first → IsProgram main text second → first ≡ second }
+{
 }
 
 /// The numbers that the statements print, up to the end of `main` and of the class.

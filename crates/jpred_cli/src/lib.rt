@@ -11,7 +11,7 @@ mod top;
 mod words;
 
 pub use ending::Ending;
-pub use form::read_program;
+pub use form::{one_reading, read_program};
 pub use top::jpred;
 pub use words::{Command, read_words};
 
