@@ -3,12 +3,12 @@
 
 use jp_outside::{FileStore, Sink, StdSink, StdSource, write_all};
 use jpred_cli::jpred;
-use std::env;
-use std::io;
 use std::io::ErrorKind;
 use std::process::ExitCode;
+use std::{env, io};
 
 const OUT_OF_MEMORY: u8 = 12;
+
 const DIAGNOSTICS_FAILED: u8 = 9;
 
 fn main(rt: HostRuntime) -> ExitCode {

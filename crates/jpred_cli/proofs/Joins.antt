@@ -1,6 +1,6 @@
 -- The steps of `go`, one after another, are what it did.
 use Rattle.std.specs.Prelude.{Ok, Err}
-use Rattle.std.proofs.Common.{◌≡◌, ◌<◌, ◌≤◌, ◌⊎◌, ℕ, ℤ, List, [], ◌∷◌, ◌++◌, length, map, flat_map, Option, Vec, Global, inl, inr, refl, sym, ap, ◌∙◌, subst}
+use Rattle.std.proofs.Common.{◌≡◌, ℕ, ℤ, List, [], ◌∷◌, ◌++◌, map, flat_map, Option, Vec, Global, inl, inr, refl, sym, ap, ◌∙◌, subst}
 use Rattle.std.specs.Fmt.{signed_decimal}
 use Rattle.std.specs.Io.KnownBytes.{append_known}
 use Rattle.jp_outside.specs.Faults.{Rose}
@@ -11,7 +11,7 @@ use Rattle.jpred_cli.specs.declared.ending.Ending.{Ending}
 use Rattle.jpred_cli.specs.declared.ending.Ending.TheVariants.{Done, NoCommand, NotYet, Missing, UnitFault, ClassFault, OutputFault, OutOfMemory}
 use Rattle.jpred_cli.specs.Form.{Literal, value_of}
 use Rattle.jpred_cli.specs.Lines.{class_file_name}
-use Rattle.jpred_cli.specs.Outcome.{Outside, outside, HasProgram, HasBegun, meaning, Did}
+use Rattle.jpred_cli.specs.Outcome.{outside, HasBegun, meaning, Did}
 use Rattle.jpred_cli.specs.Steps.{UnitRead, ClassPut, ClassRan}
 
 same_outside : (f f' : Option Files) (s s' : ℕ) (o o' : Option (List ℕ)) (q q' : ℕ) → f' ≡ f → s' ≡ s → o' ≡ o → q' ≡ q → outside f' s' o' q' ≡ outside f s o q

@@ -11,4 +11,4 @@ code_length index (n ∷ more) = omega (arith, code_length (index + 1) more)
 pub loadable : (main : List ℕ) (numbers : List ℤ) → length numbers ≤ 200 → IsLoadable (class_of main numbers ∷ [])
 loadable main numbers few =
     let short : length (code_from 14 numbers) < 2 ^ 32 = omega (arith, code_length 14 numbers) in
-    record { count = omega arith; each = All-cons IsLoadableFile (class_of main numbers) [] (record { methods = omega arith; codes = All-cons HasShortCode (main_method numbers) [] short (All-nil HasShortCode) }) (All-nil IsLoadableFile) }
+    record { count = omega arith; each = All-cons IsLoadableFile (class_of main numbers) [] (record { fields = omega arith; methods = omega arith; codes = All-cons HasShortCode (main_method numbers) [] short (All-nil HasShortCode) }) (All-nil IsLoadableFile) }

@@ -1,10 +1,9 @@
 -- The machine runs the class of a program of prints to its end.
-use Rattle.std.proofs.Common.{◌≡◌, ℕ, suc, ◌+◌, ◌-◌, ◌*◌, ◌<◌, ◌≤◌, ℤ, List, [], ◌∷◌, ◌++◌, length, map, flat_map, Option, Some, None, refl, sym, ap, ◌∙◌, subst, arith, append_assoc, append-nil, length-append}
+use Rattle.std.proofs.Common.{◌≡◌, ℕ, suc, ◌+◌, ◌-◌, ◌*◌, ◌<◌, ℤ, List, [], ◌∷◌, ◌++◌, length, map, flat_map, Some, refl, sym, ap, ◌∙◌, subst, arith, append_assoc, append-nil, length-append}
 use Rattle.std.specs.Prelude.{slice_get}
 use Rattle.std.specs.Fmt.{signed_decimal}
 use Rattle.std.proofs.Math.Seq.{get_or-append_seam}
 use Rattle.std.proofs.lemmas.Option.{slice_get-get_or}
-use Rattle.class_form.specs.declared.constant.Const.{Const}
 use Rattle.class_form.specs.declared.constant.Const.TheVariants.{Integer}
 use Rattle.class_form.specs.declared.class_file.ClassFile.{ClassFile}
 use Rattle.mini_jvm.specs.declared.value.Value.{Value}
@@ -12,16 +11,14 @@ use Rattle.mini_jvm.specs.declared.value.Value.TheVariants.{Int}
 use Rattle.mini_jvm.specs.declared.value.End.TheVariants.{Done}
 use Rattle.mini_jvm.specs.declared.value.Halt.TheVariants.{Done as HaltDone}
 use Rattle.mini_jvm.specs.declared.decode.Instr.TheVariants.{LoadConstant, CallStatic, Return}
-use Rattle.mini_jvm.specs.declared.decode.Row.{Row}
-use Rattle.mini_jvm.specs.declared.frame.Frame.{Frame}
 use Rattle.mini_jvm.specs.declared.thread.Thread.{Thread}
 use Rattle.mini_jvm.specs.Decode.{row_at}
 use Rattle.mini_jvm.specs.Turn.{Turn, Moves, Outputs, Stops, turn_of}
-use Rattle.mini_jvm.specs.Run.{Finish, on_turn, exec, start, from_start, machine_run}
+use Rattle.mini_jvm.specs.Run.{on_turn, exec, start, from_start, machine_run}
 use Rattle.std.specs.Prelude.{true}
 use Rattle.std.specs.Str.{bytes_eq}
 use Rattle.std.proofs.lemmas.Slice.Eq.{bytes_eq-Decides}
-use Rattle.jpred_cli.specs.Built.{fixed_constants, code_from, main_code, class_of}
+use Rattle.jpred_cli.specs.Built.{fixed_constants, code_from, class_of}
 
 -- these stand in the list from a place on
 abbrev Stands : {A : Type 0} → List A → ℕ → List A → Type 0

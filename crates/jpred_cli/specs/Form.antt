@@ -15,8 +15,9 @@ spelled (Word bytes) = bytes
 spelled (Number value) = decimal value
 spelled (Sign sign) = sign ∷ []
 
--- This byte directly behind the token would be part of it, since a token is the longest that fits: of the
--- signs of the form only `-` begins longer ones, `--` and `-=`.
+-- The token can't end in front of this byte. Behind a word or a minus the byte would be part of a longer token, since
+-- a token is the longest that fits: of the signs of the form only `-` begins longer ones, `--` and `-=`. Behind a
+-- number it would make the number a fault or a hexadecimal one.
 abbrev pub goes_on : Token → ℕ → Bool
 goes_on (Word bytes) b = is_word_byte b
 goes_on (Number value) b = is_word_byte b

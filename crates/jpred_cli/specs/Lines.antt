@@ -40,8 +40,19 @@ line_of ClassFault main unit = line (codes "store fault " ++ class_file_name mai
 line_of OutputFault main unit = line (codes "output fault")
 line_of OutOfMemory main unit = line (codes "want of memory")
 
--- the status came with its whole line, or 9 with a front part of the line and a fault of the diagnostics
+-- every ending but `Done` has a line
+abbrev pub HasLine : Ending → Type 0
+HasLine Done = ⊥
+HasLine NoCommand = Unit {0}
+HasLine NotYet = Unit {0}
+HasLine Missing = Unit {0}
+HasLine UnitFault = Unit {0}
+HasLine ClassFault = Unit {0}
+HasLine OutputFault = Unit {0}
+HasLine OutOfMemory = Unit {0}
+
+-- the status came with its whole line; or 9 with a front part of a line and a fault of the diagnostics
 abbrev pub Reports : Ending → List ℕ → List ℕ → ℕ → Option (List ℕ) → Option (List ℕ) → ℕ → ℕ → Type 0
 Reports ending main unit status taken taken' faults faults' =
     ((status ≡ status_of ending) × (taken' ≡ append_known taken (line_of ending main unit)) × (faults' ≡ faults))
-    ⊎ ((status ≡ 9) × AppendsFront taken taken' (line_of ending main unit) × Rose faults faults')
+    ⊎ (HasLine ending × (status ≡ 9) × AppendsFront taken taken' (line_of ending main unit) × Rose faults faults')

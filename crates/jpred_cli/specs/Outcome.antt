@@ -18,6 +18,7 @@ pub record Outside : Type 0 where
   pub out : Option (List ℕ)
   pub out_faults : ℕ
 
+-- the same by its parts
 abbrev pub outside : Option Files → ℕ → Option (List ℕ) → ℕ → Outside
 outside files store_faults out out_faults = record { files = files; store_faults = store_faults; out = out; out_faults = out_faults }
 

@@ -14,7 +14,7 @@ o >>= f = option_and_then f o
 unfoldable pub after_white : List ℕ → List ℕ
 after_white text = drop (prefix_len is_white text) text
 
--- how many bytes the longest token at the front takes
+-- how many bytes the reader takes at the front: where a token of the form stands there, these are its bytes
 unfoldable pub token_len : List ℕ → ℕ
 token_len [] = 0
 token_len (first ∷ others) =

@@ -64,8 +64,7 @@ pub fn read_program(alloc: Global, main: &str, text: &[u8]) -> Result<Option<Vec
 /// A text is at most one program of a class with a name.
 pub fn one_reading()
     ensures { (main text : List ℕ) (first second : List Literal) → IsName main → IsProgram main text first → IsProgram main text second → first ≡ second }
-{
-}
+{}
 
 /// The numbers that the statements print, up to the end of `main` and of the class.
 fn read_body(alloc: Global, body: &[u8]) -> Result<Option<Vec<i32>>, AllocError>

@@ -15,9 +15,12 @@ const USAGE: &[u8] =
 pub(crate) fn report<D: Sink>(diag: &mut D, ending: Ending, main: &str, unit: &str) -> u8
     ensures { Reports ending main.now unit.now result (D.taken diag.old) (D.taken diag.new) (D.faults diag.old) (D.faults diag.new) }
 {
-    match write_line(diag, ending, main.as_bytes(), unit.as_bytes()) {
-        Ok(()) => status(ending),
-        Err(Failed) => 9,
+    match ending {
+        Ending::Done => 0,
+        _ => match write_line(diag, ending, main.as_bytes(), unit.as_bytes()) {
+            Ok(()) => status(ending),
+            Err(Failed) => 9,
+        },
     }
 }
 

@@ -136,7 +136,7 @@ fn devices_fail(rt: HostRuntime) -> Result<(), Fail> {
     let unread = over_one_file(alloc, "one.jp", ONE, [1, 0, 0])?;
     expect(&rt, alloc, &words, unread, 8, b"", b"store fault one.jp\n")?;
     let unput = over_one_file(alloc, "one.jp", ONE, [2, 0, 0])?;
-    expect(
+    let store = expect(
         &rt,
         alloc,
         &words,
@@ -145,11 +145,36 @@ fn devices_fail(rt: HostRuntime) -> Result<(), Fail> {
         b"",
         b"store fault Main.class\n",
     )?;
+    assert_eq!(rt; store.files().len(), 2);
+    assert_eq!(rt; store.files()[0].bytes(), ONE);
     let unwritten = over_one_file(alloc, "one.jp", ONE, [0, 1, 0])?;
     expect(&rt, alloc, &words, unwritten, 9, b"", b"output fault\n")?;
     let cut = over_one_file(alloc, "one.jp", ONE, [0, 2, 0])?;
     expect(&rt, alloc, &words, cut, 9, b"7", b"output fault\n")?;
     let silent = over_one_file(alloc, "one.jp", ONE, [0, 0, 1])?;
     expect(&rt, alloc, &["go"], silent, 9, b"", b"")?;
+    Ok(())
+}
+
+/// A program of so many prints of 1.
+fn ones(alloc: Global, count: usize) -> Result<String, AllocError> {
+    let mut text = "class Main { static void main() {".to_string(alloc)?;
+    for _ in 0..count {
+        text.push_str(" Io.print(1);")?;
+    }
+    text.push_str(" } }")?;
+    Ok(text)
+}
+
+#[test]
+fn two_hundred_prints_run(rt: HostRuntime) -> Result<(), Fail> {
+    let alloc = rt.alloc();
+    let words = ["go", "Main", "m.jp"];
+    let none = over_one_file(alloc, "m.jp", ones(alloc, 0)?.as_bytes(), [0; 3])?;
+    expect(&rt, alloc, &words, none, 0, b"", b"")?;
+    let most = over_one_file(alloc, "m.jp", ones(alloc, 200)?.as_bytes(), [0; 3])?;
+    expect(&rt, alloc, &words, most, 0, &[b'1'; 200], b"")?;
+    let more = over_one_file(alloc, "m.jp", ones(alloc, 201)?.as_bytes(), [0; 3])?;
+    expect(&rt, alloc, &words, more, 3, b"", b"m.jp:1:1: NotYet\n")?;
     Ok(())
 }

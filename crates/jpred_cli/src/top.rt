@@ -2,7 +2,7 @@ ghost use Rattle.std.specs.Prelude.{◌≡◌, ◌⊎◌, ℕ, List, map, string
 ghost use Rattle.jp_outside.specs.Faults.{Rose};
 ghost use Rattle.jpred_cli.specs.Words.{IsRequest, NamesClass, request_of};
 ghost use Rattle.jpred_cli.specs.Outcome.{AskNothing, Answers, outside};
-ghost use Rattle.jpred_cli.specs.Answer.{IsStatus, WentSo, ShowsUsage, RunsPrograms};
+ghost use Rattle.jpred_cli.specs.Answer.{IsStatus, WentSo, ShowsUsage, RunsPrograms, RefusesOthers, MissesUnits};
 
 use crate::Ending;
 use crate::command::go;
@@ -43,6 +43,8 @@ pub fn jpred<S: Store, I: Source, O: Sink, D: Sink>(
     ensures not_yet { result ≡ 3 → WentSo (map string_bytes words.now)
         (outside (S.files store.old) (S.faults store.old) (O.taken out.old) (O.faults out.old))
         (outside (S.files store.new) (S.faults store.new) (O.taken out.new) (O.faults out.new)) Ending.NotYet }
+    ensures refuses { RefusesOthers (map string_bytes words.now) (S.files store.old) result }
+    ensures misses { MissesUnits (map string_bytes words.now) (S.files store.old) result }
     ensures runs { RunsPrograms (map string_bytes words.now) (S.files store.old) result }
     ensures missing { result ≡ 6 → WentSo (map string_bytes words.now)
         (outside (S.files store.old) (S.faults store.old) (O.taken out.old) (O.faults out.old))

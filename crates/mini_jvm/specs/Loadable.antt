@@ -7,8 +7,9 @@ use Rattle.class_form.specs.declared.member.MemberInfo.{MemberInfo}
 abbrev pub HasShortCode : MemberInfo → Type 0
 HasShortCode method = IfSome method.code (λ code. length code.bytes < 2 ^ 32)
 
--- a file of fewer than 2^32 methods, all of short code
+-- a file of fewer than 2^32 fields and methods, all of short code
 pub record IsLoadableFile (file : ClassFile) : Type 0 where
+  pub fields : length file.fields < 2 ^ 32
   pub methods : length file.methods < 2 ^ 32
   pub codes : All HasShortCode file.methods
 

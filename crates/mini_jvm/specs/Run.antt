@@ -85,7 +85,8 @@ from_start files main limit (Some thread) = exec files limit thread []
 abbrev pub machine_run : List ClassFile → List ℕ → ℕ → Finish
 machine_run files main limit = from_start files main limit (start files main)
 
--- an answer of the machine: the run's end with all that it writes; at a fault of the output a front part of that was written
+-- An answer of the machine: the run's end with all that it writes. At a fault of the output nothing is said here; what
+-- was written then is a front part of that, by a clause of its own.
 abbrev pub Finished : Finish → End → Option (List ℕ) → Option (List ℕ) → Type 0
 Finished finish WriteFault before now = Unit {0}
 Finished finish Done before now = (finish.end ≡ Done) × (now ≡ append_known before finish.out)

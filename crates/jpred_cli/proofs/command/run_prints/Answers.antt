@@ -1,4 +1,4 @@
-use Rattle.std.proofs.Common.{◌≡◌, ◌*◌, ◌<◌, ◌≤◌, ℕ, ℤ, List, [], ◌∷◌, length, sym, ap, ◌∙◌, subst, arith, IfOk}
+use Rattle.std.proofs.Common.{◌≡◌, ◌≤◌, ℕ, ℤ, List, [], ◌∷◌, length, sym, ap, ◌∙◌, subst, arith, IfOk}
 use Rattle.class_form.specs.declared.class_file.ClassFile.{ClassFile}
 use Rattle.jp_outside.specs.Bytes.{AppendsFront}
 use Rattle.mini_jvm.specs.Loadable.{IsLoadable}

@@ -1,5 +1,5 @@
-use Rattle.std.proofs.Common.{rules, tests, ◌≡◌, ap, sym, ◌∙◌, refl, List, ℕ, Bool, map, Bor}
-use Rattle.std.specs.Prelude.{bytes_eq, Contains}
+use Rattle.std.proofs.Common.{rules, tests, ◌≡◌, refl}
+use Rattle.std.specs.Prelude.{bytes_eq}
 use Rattle.std.specs.List.{list_any}
 use Rattle.std.proofs.lemmas.Iterator.{YieldsList-from_slice}
 use Rattle.std.proofs.lemmas.Iterator.Search.{any_from_yields_List}

@@ -1,8 +1,8 @@
-use Rattle.std.proofs.Common.{rules, arith, ◌≡◌, ap, sym, ◌∙◌, refl, List, [], ◌∷◌, ℕ, map, length, get_or, string_bytes}
+use Rattle.std.proofs.Common.{rules, arith, ◌≡◌, ap, ◌∙◌, List, [], ◌∷◌, ℕ, map, length, get_or, string_bytes}
 use Rattle.std.proofs.lemmas.List.{length-map}
 use Rattle.std.specs.Prelude.{codes}
 use Rattle.std.proofs.lemmas.Bool.{ltb-true, ltb-false}
-use Rattle.jpred_cli.specs.Words.{Request, Go, IsRequest, IsName, IsUnit}
+use Rattle.jpred_cli.specs.Words.{Request, Go, IsRequest}
 use Rattle.jpred_cli.proofs.words.read_words.Goals as goal
 use Rattle.jpred_cli.proofs.words.read_words.Goals.{in_default-via-then-words-lt3, in_default-via-else-words-lt3+else-words-lt4}
 
