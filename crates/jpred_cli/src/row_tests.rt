@@ -173,7 +173,8 @@ fn two_hundred_prints_run(rt: HostRuntime) -> Result<(), Fail> {
     let none = over_one_file(alloc, "m.jp", ones(alloc, 0)?.as_bytes(), [0; 3])?;
     expect(&rt, alloc, &words, none, 0, b"", b"")?;
     let most = over_one_file(alloc, "m.jp", ones(alloc, 200)?.as_bytes(), [0; 3])?;
-    expect(&rt, alloc, &words, most, 0, &[b'1'; 200], b"")?;
+    let written = vec![in alloc; b'1'; 200]?;
+    expect(&rt, alloc, &words, most, 0, &written, b"")?;
     let more = over_one_file(alloc, "m.jp", ones(alloc, 201)?.as_bytes(), [0; 3])?;
     expect(&rt, alloc, &words, more, 3, b"", b"m.jp:1:1: NotYet\n")?;
     Ok(())
