@@ -25,135 +25,78 @@ fn is_refused(rt: &impl Abort, alloc: Global, text: &[u8]) -> Result<(), Fail> {
 
 #[test]
 fn programs(rt: HostRuntime) -> Result<(), Fail> {
+    let cases: [(&[u8], &[i32]); 7] = [
+        (
+            b"class Main { static void main() { Io.print(7); Io.print(-2147483648); } }",
+            &[7, -2147483648],
+        ),
+        (b"class Main { static void main() { } }", &[]),
+        (b"class Main{static void main(){}}", &[]),
+        (
+            b"class Main{static void main(){Io.print(-0);Io.print(0);}}",
+            &[0, 0],
+        ),
+        (
+            b"class Main{static void main(){Io.print(2147483647);}}",
+            &[2147483647],
+        ),
+        (b"class Main{static void main(){Io.print(- 5);}}", &[-5]),
+        (
+            b"\t\n\x0c\r class\tMain\n{\rstatic\x0cvoid  main\n(\n)\n{\nIo\n.\nprint\t(\r\n-\n12\n)\n;\n}\n}\n",
+            &[-12],
+        ),
+    ];
+    for (text, expected) in cases {
+        prints(&rt, rt.alloc(), text, expected)?;
+    }
+    Ok(())
+}
+
+#[test]
+fn other_statements(rt: HostRuntime) -> Result<(), Fail> {
+    let cases: [&str; 13] = [
+        "Io.print(7)",
+        "Io.print(2147483648);",
+        "Io.print(-2147483649);",
+        "Io.print(-18446744073709551617);",
+        "Io.print(007);",
+        "Io.print(00);",
+        "Io.print(7a);",
+        "Io.print(0x7);",
+        "Io.print();",
+        "Io.print(--7);",
+        "Io.print(+7);",
+        "Io.print(7 7);",
+        "Io.println(7);",
+    ];
     let alloc = rt.alloc();
-    prints(
-        &rt,
-        alloc,
-        b"class Main { static void main() { Io.print(7); Io.print(-2147483648); } }",
-        &[7, -2147483648],
-    )?;
-    prints(&rt, alloc, b"class Main { static void main() { } }", &[])?;
-    prints(&rt, alloc, b"class Main{static void main(){}}", &[])?;
-    prints(
-        &rt,
-        alloc,
-        b"class Main{static void main(){Io.print(-0);Io.print(0);}}",
-        &[0, 0],
-    )?;
-    prints(
-        &rt,
-        alloc,
-        b"class Main{static void main(){Io.print(2147483647);}}",
-        &[2147483647],
-    )?;
-    prints(
-        &rt,
-        alloc,
-        b"class Main{static void main(){Io.print(- 5);}}",
-        &[-5],
-    )?;
-    prints(
-        &rt,
-        alloc,
-        b"\t\n\x0c\r class\tMain\n{\rstatic\x0cvoid  main\n(\n)\n{\nIo\n.\nprint\t(\r\n-\n12\n)\n;\n}\n}\n",
-        &[-12],
-    )?;
+    for statement in cases {
+        let text = format!(in alloc; "class Main {{ static void main() {{ {statement} }} }}")?;
+        is_refused(&rt, alloc, text.as_bytes())?;
+    }
     Ok(())
 }
 
 #[test]
 fn other_texts(rt: HostRuntime) -> Result<(), Fail> {
-    let alloc = rt.alloc();
-    is_refused(&rt, alloc, b"")?;
-    is_refused(
-        &rt,
-        alloc,
-        b"class Main { static void main() { Io.print(7) } }",
-    )?;
-    is_refused(
-        &rt,
-        alloc,
-        b"class Main { static void main() { Io.print(2147483648); } }",
-    )?;
-    is_refused(
-        &rt,
-        alloc,
-        b"class Main { static void main() { Io.print(-2147483649); } }",
-    )?;
-    is_refused(
-        &rt,
-        alloc,
-        b"class Main { static void main() { Io.print(-18446744073709551617); } }",
-    )?;
-    is_refused(
-        &rt,
-        alloc,
-        b"class Main { static void main() { Io.print(007); } }",
-    )?;
-    is_refused(
-        &rt,
-        alloc,
-        b"class Main { static void main() { Io.print(00); } }",
-    )?;
-    is_refused(
-        &rt,
-        alloc,
-        b"class Main { static void main() { Io.print(7a); } }",
-    )?;
-    is_refused(
-        &rt,
-        alloc,
-        b"class Main { static void main() { Io.print(0x7); } }",
-    )?;
-    is_refused(
-        &rt,
-        alloc,
-        b"class Main { static void main() { Io.print(); } }",
-    )?;
-    is_refused(
-        &rt,
-        alloc,
-        b"class Main { static void main() { Io.print(--7); } }",
-    )?;
-    is_refused(
-        &rt,
-        alloc,
-        b"class Main { static void main() { Io.print(+7); } }",
-    )?;
-    is_refused(
-        &rt,
-        alloc,
-        b"class Main { static void main() { Io.print(7 7); } }",
-    )?;
-    is_refused(
-        &rt,
-        alloc,
-        b"class Main { static void main() { Io.println(7); } }",
-    )?;
-    is_refused(&rt, alloc, b"classMain { static void main() { } }")?;
-    is_refused(&rt, alloc, b"class Main2 { static void main() { } }")?;
-    is_refused(&rt, alloc, b"class main { static void main() { } }")?;
-    is_refused(&rt, alloc, b"class Main { staticvoid main() { } }")?;
-    is_refused(&rt, alloc, b"class Main { static void main() { }")?;
-    is_refused(&rt, alloc, b"class Main { static void main() { } } }")?;
-    is_refused(
-        &rt,
-        alloc,
+    let cases: [&[u8]; 13] = [
+        b"",
+        b"classMain { static void main() { } }",
+        b"class Main2 { static void main() { } }",
+        b"class main { static void main() { } }",
+        b"class Main { staticvoid main() { } }",
+        b"class Main { static void main() { }",
+        b"class Main { static void main() { } } }",
         b"class Main { static void main() { } } // the end",
-    )?;
-    is_refused(
-        &rt,
-        alloc,
         b"class Main { /* nothing */ static void main() { } }",
-    )?;
-    is_refused(&rt, alloc, b"class Main { static void main() { } }\x00")?;
-    is_refused(&rt, alloc, b"class Main { static void main() { } }\x0b")?;
-    is_refused(&rt, alloc, b"class M\xc3\xa4in { static void main() { } }")?;
-    is_refused(
-        &rt,
-        alloc,
+        b"class Main { static void main() { } }\x00",
+        b"class Main { static void main() { } }\x0b",
+        b"class M\xc3\xa4in { static void main() { } }",
         b"\xef\xbb\xbfclass Main { static void main() { } }",
-    )?;
+    ];
+    for text in cases {
+        is_refused(&rt, rt.alloc(), text)?;
+    }
     Ok(())
 }
 
@@ -225,21 +168,19 @@ fn other_words(rt: HostRuntime) -> Result<(), Fail> {
     let alloc = rt.alloc();
     assert!(rt; is_nothing(&[]));
     assert!(rt; is_nothing(&["go".to_string(alloc)?, "Main".to_string(alloc)?]));
-    assert!(rt;
-        is_nothing(&[
-            "run".to_string(alloc)?,
-            "Main".to_string(alloc)?,
-            "one.jp".to_string(alloc)?
-        ])
-    );
     assert!(rt; !is_wrong(alloc, "Main", "a.jp")?);
-    assert!(rt; is_wrong(alloc, "Main", ".jp")?);
-    assert!(rt; is_wrong(alloc, "Main", "one.java")?);
-    assert!(rt; is_wrong(alloc, "while", "one.jp")?);
-    assert!(rt; is_wrong(alloc, "volatile", "one.jp")?);
-    assert!(rt; is_wrong(alloc, "1Main", "one.jp")?);
-    assert!(rt; is_wrong(alloc, "", "one.jp")?);
-    assert!(rt; is_wrong(alloc, "Ma-in", "one.jp")?);
-    assert!(rt; is_wrong(alloc, "M\u{e4}in", "one.jp")?);
+    let cases = [
+        ("Main", ".jp"),
+        ("Main", "one.java"),
+        ("while", "one.jp"),
+        ("volatile", "one.jp"),
+        ("1Main", "one.jp"),
+        ("", "one.jp"),
+        ("Ma-in", "one.jp"),
+        ("M\u{e4}in", "one.jp"),
+    ];
+    for (main, unit) in cases {
+        assert!(rt; is_wrong(alloc, main, unit)?);
+    }
     Ok(())
 }

@@ -92,67 +92,58 @@ fn prints_run(rt: HostRuntime) -> Result<(), Fail> {
 
 #[test]
 fn other_units_are_refused(rt: HostRuntime) -> Result<(), Fail> {
+    let unended: &[u8] = b"class Main { static void main() { Io.print(7) } }";
+    let rows: [(&[u8], &str, u8, &[u8]); 3] = [
+        (b"", "m.jp", 3, b"m.jp:1:1: NotYet\n"),
+        (unended, "m.jp", 3, b"m.jp:1:1: NotYet\n"),
+        (ONE, "x.jp", 6, b"missing x.jp\n"),
+    ];
+    for (text, unit, status, line) in rows {
+        let devices = over_one_file(rt.alloc(), "m.jp", text, [0; 3])?;
+        expect(
+            &rt,
+            rt.alloc(),
+            &["go", "Main", unit],
+            devices,
+            status,
+            b"",
+            line,
+        )?;
+    }
+    Ok(())
+}
+
+#[test]
+fn other_words_show_the_usage(rt: HostRuntime) -> Result<(), Fail> {
     let alloc = rt.alloc();
-    let empty = over_one_file(alloc, "e.jp", b"", [0; 3])?;
-    expect(
-        &rt,
-        alloc,
-        &["go", "Main", "e.jp"],
-        empty,
-        3,
-        b"",
-        b"e.jp:1:1: NotYet\n",
-    )?;
-    let text = b"class Main { static void main() { Io.print(7) } }";
-    let unended = over_one_file(alloc, "m.jp", text, [0; 3])?;
-    expect(
-        &rt,
-        alloc,
-        &["go", "Main", "m.jp"],
-        unended,
-        3,
-        b"",
-        b"m.jp:1:1: NotYet\n",
-    )?;
-    let absent = over_one_file(alloc, "one.jp", ONE, [0; 3])?;
-    expect(
-        &rt,
-        alloc,
-        &["go", "Main", "x.jp"],
-        absent,
-        6,
-        b"",
-        b"missing x.jp\n",
-    )?;
     let short = over_one_file(alloc, "one.jp", ONE, [0; 3])?;
     expect(&rt, alloc, &["go", "Main"], short, 2, b"", USAGE)?;
+    let silent = over_one_file(alloc, "one.jp", ONE, [0, 0, 1])?;
+    expect(&rt, alloc, &["go"], silent, 9, b"", b"")?;
     Ok(())
 }
 
 #[test]
 fn devices_fail(rt: HostRuntime) -> Result<(), Fail> {
-    let alloc = rt.alloc();
-    let words = ["go", "Main", "one.jp"];
-    let unread = over_one_file(alloc, "one.jp", ONE, [1, 0, 0])?;
-    expect(&rt, alloc, &words, unread, 8, b"", b"store fault one.jp\n")?;
-    let unput = over_one_file(alloc, "one.jp", ONE, [2, 0, 0])?;
-    let store = expect(
-        &rt,
-        alloc,
-        &words,
-        unput,
-        8,
-        b"",
-        b"store fault Main.class\n",
-    )?;
-    assert_eq!(rt; store.files().len(), 2);
-    assert_eq!(rt; store.files()[0].bytes(), ONE);
-    let unwritten = over_one_file(alloc, "one.jp", ONE, [0, 1, 0])?;
-    expect(&rt, alloc, &words, unwritten, 9, b"", b"output fault\n")?;
-    let cut = over_one_file(alloc, "one.jp", ONE, [0, 2, 0])?;
-    expect(&rt, alloc, &words, cut, 9, b"7", b"output fault\n")?;
-    let silent = over_one_file(alloc, "one.jp", ONE, [0, 0, 1])?;
-    expect(&rt, alloc, &["go"], silent, 9, b"", b"")?;
+    let rows: [([u64; 3], u8, &[u8], &[u8], usize); 4] = [
+        ([1, 0, 0], 8, b"", b"store fault one.jp\n", 1),
+        ([2, 0, 0], 8, b"", b"store fault Main.class\n", 2),
+        ([0, 1, 0], 9, b"", b"output fault\n", 2),
+        ([0, 2, 0], 9, b"7", b"output fault\n", 2),
+    ];
+    for (fail, status, out, line, files) in rows {
+        let devices = over_one_file(rt.alloc(), "one.jp", ONE, fail)?;
+        let store = expect(
+            &rt,
+            rt.alloc(),
+            &["go", "Main", "one.jp"],
+            devices,
+            status,
+            out,
+            line,
+        )?;
+        assert_eq!(rt; store.files().len(), files);
+    }
     Ok(())
 }
 
