@@ -1,0 +1,11 @@
+pub mod Hierarchy
+pub mod Implication
+pub mod Kinds
+pub mod Laws
+pub mod Marks
+pub mod Names
+pub mod Paths
+pub mod Selection
+pub mod Shapes
+pub mod Truth
+pub mod Universe

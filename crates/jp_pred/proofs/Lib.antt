@@ -1,0 +1,13 @@
+pub mod Ascents
+pub mod Completion
+pub mod Cycles
+pub mod Entries
+pub mod Extension
+pub mod Guards
+pub mod Implied
+pub mod Lists
+pub mod OfTypes
+pub mod Selections
+pub mod Sizes
+pub mod Universes
+pub mod Visits
