@@ -1,0 +1,7 @@
+use Rattle.std.proofs.Common.{◌≡◌, ◌-◌, ◌^◌, min, sum_by, take}
+use Rattle.jp_ast.specs.Counts.{expr_nodes}
+use Rattle.jp_ast.proofs.counts.+exprs.Given as goal
+
+-- the count as far as the list has been gone through
+abbrev pub invariant-all_exprs-loop-one : goal.invariant-all_exprs-loop-one
+invariant-all_exprs-loop-one l = l.total ≡ min (sum_by expr_nodes (take l.one-index l.all)) (2 ^ 64 - 1)

@@ -1,0 +1,13 @@
+pub mod Begun
+pub mod Chains
+pub mod Choice
+pub mod Depths
+pub mod Excluding
+pub mod Facts
+pub mod Names
+pub mod Outcome
+pub mod Parts
+pub mod Prefixes
+pub mod Samples
+pub mod Sequence
+pub mod Words

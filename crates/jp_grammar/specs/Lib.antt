@@ -1,0 +1,10 @@
+pub mod Behind
+pub mod Declarations
+pub mod Depth
+pub mod Expressions
+pub mod Faults
+pub mod Guards
+pub mod Kinds
+pub mod Reading
+pub mod Statements
+pub mod Trees
