@@ -1,4 +1,4 @@
--- What a file's indices name.
+-- What a file's indices name, and an attribute by its name.
 use Rattle.std.specs.Prelude.{ℕ, Bool, false, List, Option, Some, None, slice_get, option_and_then}
 use Rattle.std.specs.List.{find}
 use Rattle.std.specs.Str.{bytes_eq}
