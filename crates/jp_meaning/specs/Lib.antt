@@ -1,0 +1,12 @@
+pub mod Choice
+pub mod Classes
+pub mod Descriptors
+pub mod Does
+pub mod Expressions
+pub mod Laws
+pub mod Members
+pub mod OpenTrace
+pub mod Run
+pub mod Signs
+pub mod States
+pub mod Statements
