@@ -1,0 +1,10 @@
+pub mod Runs
+pub mod Closings
+pub mod Decimals
+pub mod Hexadecimals
+pub mod Quotes
+pub mod SignTable
+pub mod HexSteps
+pub mod FrontLemmas
+pub mod Complete
+pub mod Whole
