@@ -1,0 +1,9 @@
+use Rattle.std.proofs.Common.{◌≡◌, ◌-◌}
+use Rattle.class_reader.specs.Reading.{attribute_at}
+use Rattle.class_reader.specs.Fields.{many_at}
+use Rattle.class_reader.proofs.Loop.{with_front}
+use Rattle.class_reader.proofs.attributes.many_attributes.Given as goal
+
+-- the items so far, and what is left to read
+abbrev pub invariant-loop : goal.invariant-loop
+invariant-loop l = with_front l.attributes (many_at (attribute_at l.edge l.constants) (l.count - l.counter) l.rest) ≡ many_at (attribute_at l.edge l.constants) l.count l.bytes
