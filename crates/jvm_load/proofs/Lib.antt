@@ -1,0 +1,4 @@
+pub mod Positions
+pub mod LineLemmas
+pub mod Members
+pub mod Types

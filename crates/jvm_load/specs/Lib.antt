@@ -1,0 +1,5 @@
+pub mod FileClasses
+pub mod Loadable
+pub mod Methods
+pub mod Lines
+pub mod Texts

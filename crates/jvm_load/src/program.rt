@@ -1,0 +1,123 @@
+ghost use Rattle.std.specs.Prelude.{◌≡◌, ◌<◌, length, IfOk, IfSome, slice_get};
+ghost use Rattle.std.specs.Option.{option_map};
+ghost use Rattle.jp_store.specs.Classes.{line};
+ghost use Rattle.jvm_load.specs.FileClasses.{classes_of};
+ghost use Rattle.jvm_load.specs.Lines.{lines_of};
+ghost use Rattle.jvm_load.specs.Loadable.{IsLoadable, IsLoadableFile};
+
+use crate::walk::walk_up;
+use class_form::ClassFile;
+use std::alloc::{AllocError, Global};
+use std::marker::Model;
+
+/// Positions of files, which contracts see as their list.
+#[derive(Drop)]
+pub(crate) struct Positions {
+    items: Vec<u32>,
+}
+
+impl Model for Positions {
+    ghost use Rattle.std.specs.Prelude.{List, ℕ};
+
+    ghost Value = { List ℕ };
+
+    ghost view = { λ p. p.items.items };
+}
+
+impl Positions {
+    pub(crate) fn new(items: Vec<u32>) -> Positions
+        ensures { result ≡ items.items }
+    {
+        Positions { items }
+    }
+
+    pub(crate) fn as_slice(&self) -> &[u32]
+        ensures { result.now ≡ self.now }
+    {
+        self.items.as_slice()
+    }
+}
+
+/// Class files that are loaded, which contracts see as their list.
+#[derive(Drop)]
+pub struct Program {
+    files: Vec<ClassFile>,
+    lines: Vec<Positions>,
+}
+
+impl Model for Program {
+    ghost use Rattle.std.specs.Prelude.{◌≡◌, List, length};
+    ghost use Rattle.class_form.specs.declared.class_file.ClassFile.{ClassFile as File};
+    ghost use Rattle.jvm_load.specs.FileClasses.{classes_of};
+    ghost use Rattle.jvm_load.specs.Lines.{lines_of};
+    ghost use Rattle.jvm_load.specs.Loadable.{IsLoadable};
+
+    ghost Value = { List File };
+
+    ghost view = { λ p. p.files.items };
+
+    ghost invariant = { λ p.
+        IsLoadable p.files.items × (p.lines.items ≡ lines_of (classes_of p.files.items) (length p.files.items)) };
+}
+
+impl Program {
+    /// The files, in the order in which they were loaded.
+    pub fn files(&self) -> &[ClassFile]
+        ensures files { result.now ≡ self.now }
+        ensures loadable { IsLoadable result.now }
+    {
+        self.files.as_slice()
+    }
+
+    /// The file at a position.
+    pub fn file(&self, at: u32) -> Option<&ClassFile>
+        ensures file { option_map (λ file. file.now) result ≡ slice_get self.now at }
+        ensures loadable { IfSome result (λ file. IsLoadableFile file.now) }
+    {
+        self.files.get(at as usize)
+    }
+
+    /// The class at a position and those upwards from it, each once.
+    pub fn line(&self, at: u32) -> &[u32]
+        requires { at < length self.now }
+        ensures { result.now ≡ line (classes_of self.now) at }
+    {
+        let line = &self.lines[at as usize];
+        line.as_slice()
+    }
+}
+
+/// Copies the class files of a program: fewer than 2^32, each with fewer than 2^32 fields and fewer than 2^32 methods,
+/// and no code of 2^32 bytes or more.
+pub fn load(alloc: Global, files: &[ClassFile]) -> Result<Program, AllocError>
+    requires { IsLoadable files.now }
+    ensures { IfOk result (λ program. program ≡ files.now) }
+{
+    let copies = copy_files(alloc, files)?;
+    let lines = all_lines(alloc, copies.as_slice())?;
+    Ok(Program {
+        files: copies,
+        lines,
+    })
+}
+
+fn copy_files(alloc: Global, files: &[ClassFile]) -> Result<Vec<ClassFile>, AllocError>
+    ensures { IfOk result (λ copies. copies.items ≡ files.now) }
+{
+    let mut copies = Vec::new(alloc);
+    for file in files {
+        copies.push(file.copy(alloc)?)?;
+    }
+    Ok(copies)
+}
+
+fn all_lines(alloc: Global, files: &[ClassFile]) -> Result<Vec<Positions>, AllocError>
+    requires { IsLoadable files.now }
+    ensures { IfOk result (λ lines. lines.items ≡ lines_of (classes_of files.now) (length files.now)) }
+{
+    let mut lines = Vec::new(alloc);
+    for at in 0..files.len() {
+        lines.push(Positions::new(walk_up(alloc, files, at as u32)?))?;
+    }
+    Ok(lines)
+}
