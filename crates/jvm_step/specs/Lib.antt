@@ -1,0 +1,4 @@
+pub mod Act
+pub mod Turn
+pub mod Run
+pub mod Names
