@@ -8,5 +8,6 @@ pub mod CodeSteps
 pub mod Prints
 pub mod Fronts
 pub mod Loads
+pub mod Formed
 pub mod Joins
 pub mod Answering

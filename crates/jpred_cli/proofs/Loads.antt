@@ -4,7 +4,7 @@ use Rattle.std.proofs.lemmas.List.Elements.{All-cons, All-nil}
 use Rattle.mini_jvm.specs.Loadable.{HasShortCode, IsLoadableFile, IsLoadable}
 use Rattle.jpred_cli.specs.Built.{code_from, main_method, class_of}
 
-code_length : (index : ℕ) (numbers : List ℤ) → length (code_from index numbers) ≡ 5 * length numbers + 1
+pub code_length : (index : ℕ) (numbers : List ℤ) → length (code_from index numbers) ≡ 5 * length numbers + 1
 code_length index [] = omega arith
 code_length index (n ∷ more) = omega (arith, code_length (index + 1) more)
 

@@ -9,9 +9,9 @@ ghost use Rattle.jpred_cli.specs.Steps.{UnitRead, ClassPut, ClassRan, printed};
 
 use crate::Ending;
 use crate::class_builder::class_with_prints;
-use crate::class_writer::class_bytes;
 use crate::form::read_program;
 use class_form::ClassFile;
+use class_writer::write_class;
 use jp_outside::{Sink, Source, Store, StoreErr};
 use jp_pred::Name;
 use mini_jvm::{End, load, run};
@@ -77,11 +77,12 @@ fn put_class<S: Store>(
     numbers: &[i32],
     store: &mut S,
 ) -> Result<ClassFile, Ending>
-    requires { length numbers.now ≤ 200 }
+    requires name { IsName main.now }
+    requires few { length numbers.now ≤ 200 }
     ensures { ClassPut main.now numbers.now (S.files store.old) (S.files store.new) (S.faults store.old) (S.faults store.new) result }
 {
     let file = class_with_prints(alloc, main.as_bytes(), numbers)?;
-    let bytes = class_bytes(alloc, &file, 7)?;
+    let bytes = write_class(alloc, &file)?;
     let name = class_file(alloc, main)?;
     match store.put(alloc, name.as_str(), bytes.as_slice()) {
         Ok(()) => Ok(file),

@@ -2,7 +2,6 @@
 #![tactic(auto)]
 
 mod class_builder;
-mod class_writer;
 mod command;
 mod ending;
 mod form;
