@@ -1,12 +1,11 @@
 -- Members that are found upwards.
-use Rattle.std.proofs.Common.{◌≡◌, ℕ, suc, ◌+◌, ◌<◌, List, [], ◌∷◌, length, map, drop, get_or, Option, Some, None, refl, sym, ap, ◌∙◌, arith}
+use Rattle.std.proofs.Common.{◌≡◌, ℕ, List, [], Option, Some, None, refl, ap, ◌∙◌}
 use Rattle.std.specs.Prelude.{slice_get, position}
 use Rattle.std.specs.Option.{option_map, option_map_or}
 use Rattle.std.specs.Str.{bytes_eq}
-use Rattle.std.proofs.Math.Seq.{drop-cons}
 use Rattle.std.proofs.lemmas.Option.{slice_get-map}
 use Rattle.class_form.specs.declared.class_file.ClassFile.{ClassFile}
-use Rattle.jp_store.specs.Classes.{Class, Field, own_fields, first_field}
+use Rattle.jp_store.specs.Classes.{Class, Field, own_fields}
 use Rattle.jvm_load.specs.FileClasses.{class_of, classes_of, field_of_member, text_at}
 use Rattle.jvm_load.specs.Methods.{own_field}
 use Rattle.jvm_load.proofs.Positions.{position_map}

@@ -1,5 +1,5 @@
 -- Types that are read one after another.
-use Rattle.std.proofs.Common.{◌≡◌, ℕ, zero, suc, ◌++◌, List, [], ◌∷◌, Bool, true, false, Option, Some, None, refl, sym, ap, ◌∙◌, append_assoc, append-nil, length, arith}
+use Rattle.std.proofs.Common.{◌≡◌, ℕ, zero, suc, ◌++◌, List, [], ◌∷◌, true, false, Option, Some, None, refl, sym, ap, ◌∙◌, append_assoc, length, arith}
 use Rattle.std.specs.Prelude.{option_and_then, ◌==◌}
 use Rattle.std.specs.Option.{option_map}
 use Rattle.jp_store.specs.declared.value.Kind.{Kind}

@@ -5,6 +5,8 @@ mod descriptor;
 mod look_up;
 mod names;
 mod program;
+#[cfg(test)]
+mod tests;
 mod walk;
 
 pub use descriptor::{Signature, read_signature, result_kind};

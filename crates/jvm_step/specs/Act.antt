@@ -1,9 +1,8 @@
 -- The code's answers as the table's.
-use Rattle.std.specs.Prelude.{ℕ, true, false, Option, Some, None}
+use Rattle.std.specs.Prelude.{true, false, Option, Some, None}
 use Rattle.class_form.specs.declared.class_file.ClassFile.{ClassFile}
 use Rattle.class_form.specs.Constants.{class_name_at}
-use Rattle.jp_store.specs.declared.value.Value.{Value}
-use Rattle.jp_store.specs.Work.{Op, GetField as FieldRead, PutField as FieldWrite, GetStatic as StaticRead, PutStatic as StaticWrite, MakeObject as ObjectMade, MakeArray, GetElem, PutElem, Length, InstanceOf as InstanceTest, Cast, IntElements, BooleanElements, ClassElements}
+use Rattle.jp_store.specs.Work.{GetField as FieldRead, PutField as FieldWrite, GetStatic as StaticRead, PutStatic as StaticWrite, MakeObject as ObjectMade, MakeArray, GetElem, PutElem, Length, InstanceOf as InstanceTest, Cast, IntElements, BooleanElements, ClassElements}
 use Rattle.jvm_table.specs.declared.frame.Frame.{Frame}
 use Rattle.jvm_table.specs.Constants.{field_in, method_in, interface_method_in, member_named, literal_at}
 use Rattle.jvm_table.specs.Act.{Act, Moves, ShowsInt, ShowsText, Asks, Effects, Leaves, Fails, NoRow, on_found, invoked, calls, StaticMethod, calls_virtual, calls_special, calls_interface}

@@ -1,10 +1,9 @@
 -- Whole runs of the machine.
-use Rattle.std.specs.Prelude.{◌≡◌, ℕ, zero, suc, ℤ, pos, negsuc, ◌==◌, Bool, true, not, ◌&&◌, List, [], ◌∷◌, ◌++◌, Option, Some, None, Result, Ok, Err, option_and_then, unwrap_or, replicate, position, slice_get, if◌then◌else◌, codes}
+use Rattle.std.specs.Prelude.{◌≡◌, ℕ, zero, suc, ℤ, pos, negsuc, true, List, [], ◌∷◌, ◌++◌, Option, Some, None, option_and_then, unwrap_or, slice_get, codes}
 use Rattle.std.specs.Io.KnownBytes.{append_known}
 use Rattle.jp_outside.specs.Bytes.{AppendsFront}
 use Rattle.jp_outside.specs.Faults.{Rose}
 use Rattle.class_form.specs.declared.class_file.ClassFile.{ClassFile}
-use Rattle.class_form.specs.declared.member.MemberInfo.{MemberInfo}
 use Rattle.jp_store.specs.declared.value.Value.TheVariants.{Int}
 use Rattle.jp_store.specs.Classes.{place_of, first_statics}
 use Rattle.jvm_table.specs.Act.{with_values}

@@ -1,5 +1,5 @@
 -- One step of a run.
-use Rattle.std.specs.Prelude.{ℕ, ℤ, ◌-◌, ◌==◌, Bool, true, false, List, [], ◌∷◌, ◌++◌, length, replicate, Option, Some, None, option_and_then, slice_get, nat_le, if◌then◌else◌}
+use Rattle.std.specs.Prelude.{ℕ, ◌-◌, Bool, true, false, List, [], ◌∷◌, ◌++◌, length, replicate, Option, Some, None, option_and_then, slice_get, nat_le, if◌then◌else◌}
 use Rattle.std.specs.Option.{option_map}
 use Rattle.std.specs.Fmt.{signed_decimal}
 use Rattle.class_form.specs.declared.class_file.ClassFile.{ClassFile}
@@ -8,7 +8,6 @@ use Rattle.class_form.specs.declared.member.Code.{Code}
 use Rattle.jp_store.specs.declared.value.Value.{Value}
 use Rattle.jp_store.specs.declared.value.Value.TheVariants.{Int, Long, Null, Ref, Text}
 use Rattle.jp_store.specs.declared.value.TrapKind.TheVariants.{NullReference}
-use Rattle.jp_store.specs.declared.value.ClassAt.{ClassAt}
 use Rattle.jp_store.specs.declared.value.ClassAt.TheVariants.{Root, Listed}
 use Rattle.jp_store.specs.declared.heap.Thing.{Thing}
 use Rattle.jp_store.specs.declared.heap.Thing.TheVariants.{Object, Array}
@@ -16,9 +15,9 @@ use Rattle.jp_store.specs.declared.outcome.Outcome.{Outcome}
 use Rattle.jp_store.specs.declared.outcome.Outcome.TheVariants.{Fine, Trap, Wrong}
 use Rattle.jp_store.specs.Classes.{place_of, super_of}
 use Rattle.jp_store.specs.Store.{Store}
-use Rattle.jp_store.specs.Work.{Op, work}
+use Rattle.jp_store.specs.Work.{work}
 use Rattle.jvm_table.specs.declared.frame.Frame.{Frame}
-use Rattle.jvm_table.specs.Act.{Act, Moves, ShowsInt, ShowsText, Asks, Effects, Invokes, Leaves, Fails, NoRow, Target, StaticMethod, VirtualMethod, Constructor, MethodAbove, Call, acts, answered, on_found, is_single}
+use Rattle.jvm_table.specs.Act.{Act, Moves, ShowsInt, ShowsText, Asks, Effects, Invokes, Leaves, Fails, NoRow, Target, StaticMethod, VirtualMethod, Constructor, MethodAbove, acts, answered, on_found, is_single}
 use Rattle.jvm_load.specs.FileClasses.{classes_of, is_static}
 use Rattle.jvm_load.specs.Methods.{own_method, find_method}
 use Rattle.jvm_step.specs.declared.value.Halt.{Halt}

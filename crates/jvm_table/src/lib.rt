@@ -6,6 +6,8 @@ mod frame;
 mod instr;
 mod opcode;
 mod stack;
+#[cfg(test)]
+mod tests;
 
 pub use decode::{Row, fetch_row};
 pub use frame::Frame;

@@ -1,5 +1,4 @@
-use Rattle.std.proofs.Common.{◌≡◌, ◌<◌, ◌+◌, ◌-◌, ◌++◌, List, ℕ, suc, zero, [], ◌∷◌, Some, None, true, false, length, sym, ap, ◌∙◌, arith, append-nil, eq-eqb}
-use Rattle.std.specs.Prelude.{◌==◌}
+use Rattle.std.proofs.Common.{◌≡◌, ◌+◌, ◌-◌, List, suc, zero, ◌∷◌, Some, None, length, sym, ap, ◌∙◌, arith, append-nil, eq-eqb}
 use Rattle.std.proofs.lemmas.Bool.{ne_eqb}
 use Rattle.jp_store.specs.declared.value.Kind.{Kind}
 use Rattle.jvm_table.specs.Descriptors.{types_in, first_type}

@@ -1,7 +1,6 @@
 use Rattle.std.proofs.Common.{◌≡◌, drop}
 use Rattle.jp_store.specs.Classes.{first_field}
 use Rattle.jvm_load.specs.FileClasses.{classes_of}
-use Rattle.jvm_load.specs.Methods.{first_method}
 use Rattle.jvm_load.proofs.look_up.first_field.Given as goal
 
 -- nothing was found so far

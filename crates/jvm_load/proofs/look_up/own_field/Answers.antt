@@ -1,4 +1,4 @@
-use Rattle.std.proofs.Common.{◌≡◌, sym, ◌∙◌}
+use Rattle.std.proofs.Common.{sym, ◌∙◌}
 use Rattle.jvm_load.proofs.Members.{own_is}
 use Rattle.jvm_load.proofs.look_up.own_field.Goals as goal
 

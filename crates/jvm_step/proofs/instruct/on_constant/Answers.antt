@@ -1,4 +1,4 @@
-use Rattle.std.proofs.Common.{◌≡◌, sym, ap, ◌∙◌}
+use Rattle.std.proofs.Common.{sym, ap, ◌∙◌}
 use Rattle.jvm_table.specs.Act as table
 use Rattle.jvm_step.proofs.instruct.on_constant.Goals as goal
 
