@@ -60,7 +60,7 @@ reaches_from_walk (step i w) zero h = absurd (omega arith)
 reaches_from_walk {hier} (step {ns} {a} {b} {c} i w) (suc n) h =
     or_right (same a c) _ (any_from_in (λ p. reaches n hier p c) i (reaches_from_walk w n (omega arith)))
 
-length_map : {X Y : Type 0} (f : X → Y) (xs : List X) → length (map f xs) ≡ length xs
+pub length_map : {X Y : Type 0} (f : X → Y) (xs : List X) → length (map f xs) ≡ length xs
 length_map f [] = refl
 length_map f (x ∷ xs) = ap suc (length_map f xs)
 

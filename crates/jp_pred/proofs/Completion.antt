@@ -59,7 +59,7 @@ grows_trans f g = record {
 pub complete_grown : (u : Hier) (ps : List Path) {old new : Shape} → Complete u ps old → Grows old new → Complete u ps new
 complete_grown u ps c g path s i l = has_grown g (extend path s) (c path s i (leads_back u g path s.class l))
 
-dec_entry : (s : Shape) (p : Path) → HasEntry s p ⊎ (HasEntry s p → ⊥)
+pub dec_entry : (s : Shape) (p : Path) → HasEntry s p ⊎ (HasEntry s p → ⊥)
 dec_entry s p = elim (some_or_none (entry_of p s.refs)) [
   | inl h ↦ inl (inl h)
   | inr e ↦ elim (some_or_none (entry_of p s.ints)) [
@@ -77,7 +77,7 @@ no_ref s p none = elim (some_or_none (entry_of p s.refs)) [ inl h ↦ absurd (no
 no_int : (s : Shape) (p : Path) → (HasEntry s p → ⊥) → entry_of p s.ints ≡ None
 no_int s p none = elim (some_or_none (entry_of p s.ints)) [ inl h ↦ absurd (none (inr h)) | inr e ↦ e ]
 
-dec_leads : (u : Hier) → HasNoCycle u → (s : Shape) (p : Path) (c : Word) → LeadsTo u s p c ⊎ (LeadsTo u s p c → ⊥)
+pub dec_leads : (u : Hier) → HasNoCycle u → (s : Shape) (p : Path) (c : Word) → LeadsTo u s p c ⊎ (LeadsTo u s p c → ⊥)
 dec_leads u free s p c = elim (some_or_none (entry_of p s.refs)) [
   | inl h ↦ let w = what_some (entry_of p s.refs) h in elim (true_or_false (kind_below u w.0 (ty.Class c))) [
     | inl t ↦ inl (w.0, w.1, (kind_below-Decides u w.0 (ty.Class c) free).0 t)
@@ -123,13 +123,13 @@ entry_in_int s q p h = elim (equal_or_not q p) [
   | inr ne ↦ inr (elim h [ inl a ↦ inl a | inr a ↦ inr (subst (λ (o : Option ℤ). IsSome o) (entry_other q p (pos 0) s.ints ne) a) ])
 ]
 
-same_front : (p q : Path) (s t : PathStep) → extend p s ≡ extend q t → p ≡ q
+pub same_front : (p q : Path) (s t : PathStep) → extend p s ≡ extend q t → p ≡ q
 same_front p q s t e =
     let r : p.root ≡ q.root = ap (λ (x : Path). x.root) e in
     let f : p.steps ≡ q.steps = (same_from_push p.steps q.steps s t (ap (λ (x : Path). x.steps) e)).0 in
     λ i. record { root = r i; steps = f i }
 
-same_last : (p q : Path) (s t : PathStep) → extend p s ≡ extend q t → s ≡ t
+pub same_last : (p q : Path) (s t : PathStep) → extend p s ≡ extend q t → s ≡ t
 same_last p q s t e = (same_from_push p.steps q.steps s t (ap (λ (x : Path). x.steps) e)).1
 
 leads_same : (u : Hier) (shape : Shape) (p q : Path) (s t : PathStep) → extend p s ≡ extend q t → LeadsTo u shape p s.class → LeadsTo u shape q t.class
@@ -272,8 +272,8 @@ module _ (u : Hier) (roots : List Ty) (free : HasNoCycle u) where
       }
 
   -- an entry stands at a path of a root
-  rooted : (s : Shape) → IsShape u roots [] s → (p : Path) → HasEntry s p → (t : Ty) × (slice_get roots p.root ≡ Some t)
-  rooted s valid p h = elim (slice_get roots p.root) as (λ o. slice_get roots p.root ≡ o → (t : Ty) × (o ≡ Some t)) [
+  pub rooted : (ps : List Path) (s : Shape) → IsShape u roots ps s → (p : Path) → HasEntry s p → (t : Ty) × (slice_get roots p.root ≡ Some t)
+  rooted ps s valid p h = elim (slice_get roots p.root) as (λ o. slice_get roots p.root ≡ o → (t : Ty) × (o ≡ Some t)) [
     | None ↦ λ e.
         let n : path_type u roots p ≡ None = ap (λ o. option_and_then (λ t. steps_type u t p.steps) o) e in
         elim h [
@@ -290,7 +290,7 @@ module _ (u : Hier) (roots : List Ty) (free : HasNoCycle u) where
     | inr none ↦
         let none' : HasEntry new p → ⊥ = λ h. elim (last_step p.steps) [
           | inl e ↦
-              let w = rooted new sound p h in
+              let w = rooted [] new sound p h in
               let q : root_path p.root ≡ p = λ j. record { root = p.root; steps = sym e j } in
               none (subst (λ (x : Path). HasEntry old x) q (valid.root p.root w.0 w.1))
           | inr r ↦

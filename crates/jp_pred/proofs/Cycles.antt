@@ -35,7 +35,7 @@ else_interface hier c faces p u f e never s = elim (in_named c.superclass c.inte
   | inr j ↦ (s.0, subst (λ (xs : List Word). In s.0 xs) (sym f) j, s.2)
 ]
 
-in_map_back : {X Y : Type 0} (f : X → Y) (xs : List X) (y : Y) → In y (map f xs) → (x : X) × In x xs × (f x ≡ y)
+pub in_map_back : {X Y : Type 0} (f : X → Y) (xs : List X) (y : Y) → In y (map f xs) → (x : X) × In x xs × (f x ≡ y)
 in_map_back f [] y i = elim i [ ]
 in_map_back f (x ∷ xs) _ here = (x, here, refl)
 in_map_back f (x ∷ xs) y (there i) = let r = in_map_back f xs y i in (r.0, there r.1, r.2)

@@ -13,7 +13,7 @@ use Rattle.jp_pred.specs.Truth.{some_below, kind_below}
 use Rattle.jp_pred.proofs.Lists.{any_from_in, in_from_any}
 use Rattle.jp_pred.proofs.Ascents.{is_below-Decides}
 
-some_below-Decides : (u : Hier) (names : List Word) (t : Ty) → HasNoCycle u → Decides (some_below u names t) (SomeBelow u names t)
+pub some_below-Decides : (u : Hier) (names : List Word) (t : Ty) → HasNoCycle u → Decides (some_below u names t) (SomeBelow u names t)
 some_below-Decides u names (ty.Class c) free = (
   (λ h. let f = in_from_any (λ n. is_below u n c) names h in (f.0, f.1, (is_below-Decides u f.0 c free).0 f.2)),
   (λ s. any_from_in (λ n. is_below u n c) s.1 ((is_below-Decides u s.0 c free).1 s.2)),

@@ -49,11 +49,11 @@ module _ (hier : Hier) (parameters : List Ty) (universe : Hier) (shape : Shape) 
   applies_or_not : (i : ℕ) → Applies universe shape chain i ⊎ (Applies universe shape chain i → ⊥)
   applies_or_not i = elim (slice_get chain i) as (λ o. slice_get chain i ≡ o → Applies universe shape chain i ⊎ (Applies universe shape chain i → ⊥)) [
     | None ↦ λ e. inr (λ a. let k : None ≡ Some a.body = sym e ∙ a.at in cc)
-    | Some b ↦ λ e. elim (true_or_false (is_true universe shape (whole_guard b))) [
+    | Some b ↦ λ e. elim (true_or_false (is_true universe shape b.1)) [
       | inl t ↦ inl (record { body = b; at = e; true_there = t })
       | inr f ↦ inr (λ a.
           let q : a.body ≡ b = some_same a.body b (sym a.at ∙ e) in
-          let t : is_true universe shape (whole_guard b) ≡ true = subst (λ (x : Body). is_true universe shape (whole_guard x) ≡ true) q a.true_there in
+          let t : is_true universe shape b.1 ≡ true = subst (λ (x : Body). is_true universe shape x.1 ≡ true) q a.true_there in
           cc)
     ]
   ] refl

@@ -1,5 +1,5 @@
 -- Implication of guards over all universes that extend a hierarchy.
-use Rattle.std.specs.Prelude.{◌≡◌, List, [], ◌∷◌, ◌++◌, map, true}
+use Rattle.std.specs.Prelude.{◌≡◌, List, [], ◌∷◌, ◌++◌, map, true, false}
 use Rattle.jp_pred.specs.declared.hier.Hier.{Hier}
 use Rattle.jp_pred.specs.declared.ty.Ty.{Ty}
 use Rattle.jp_pred.specs.declared.ty.Ty.TheVariants as ty
@@ -40,3 +40,10 @@ root_types parameters = ty.Class object ∷ parameters
 abbrev pub Implies : Hier → List Ty → Guard → Guard → Type 0
 Implies hier parameters g h = (universe : Hier) (shape : Shape) → Extends universe hier → IsShape universe (root_types parameters) (paths_of g ++ paths_of h) shape →
     is_true universe shape g ≡ true → is_true universe shape h ≡ true
+
+-- a shape of the hierarchy itself on which the first guard is true and the second isn't
+pub record Refuted (hier : Hier) (parameters : List Ty) (g h : Guard) : Type 0 where
+  pub shape : Shape
+  pub over : IsShape hier (root_types parameters) (paths_of g ++ paths_of h) shape
+  pub first : is_true hier shape g ≡ true
+  pub second : is_true hier shape h ≡ false

@@ -1,5 +1,5 @@
 -- Laws of hierarchies, of implication and of selection.
-use Rattle.std.specs.Prelude.{◌≡◌, ◌≢◌, ℕ, List}
+use Rattle.std.specs.Prelude.{◌≡◌, ◌≢◌, ◌↔◌, ◌⊎◌, ℕ, List, [], ◌∷◌, map}
 use Rattle.std.specs.Bool.{Decides}
 use Rattle.jp_pred.specs.declared.hier.Hier.{Hier}
 use Rattle.jp_pred.specs.declared.ty.Ty.{Ty}
@@ -12,8 +12,9 @@ use Rattle.jp_pred.specs.Universe.{IsUniverse, Extends, IsSeen}
 use Rattle.jp_pred.specs.Kinds.{IsOf}
 use Rattle.jp_pred.specs.Truth.{kind_below}
 use Rattle.jp_pred.specs.Shapes.{AreTyped}
-use Rattle.jp_pred.specs.Implication.{Implies, paths_of, root_types}
-use Rattle.jp_pred.specs.Selection.{Body, whole_guard, Beats, Applies, Selected, Settles, AreTypedBodies}
+use Rattle.jp_pred.specs.Implication.{Implies, Refuted, paths_of, root_types}
+use Rattle.jp_pred.specs.Seen.{AreSeen}
+use Rattle.jp_pred.specs.Selection.{Body, whole_guard, Beats, Applies, Selected, BeatsBoth, Settles, AreTypedBodies}
 
 -- without cycles the computed answers are those of the relations
 abbrev pub BelowIsDecided : Type 0
@@ -41,9 +42,27 @@ ImplicationIsTransitive = (hier : Hier) (parameters : List Ty) (g h k : Guard) �
 abbrev pub ImplicationIsKept : Type 0
 ImplicationIsKept = (universe hier : Hier) (parameters : List Ty) (g h : Guard) → Extends universe hier → Implies hier parameters g h → Implies universe parameters g h
 
+-- over a universe that has every class named, the same is implied as over each universe that extends it
+abbrev pub ImplicationIsStable : Type 0
+ImplicationIsStable = (universe hier : Hier) (parameters : List Ty) (g h : Guard) → IsUniverse hier → AreSeen hier parameters (g ∷ h ∷ []) → Extends universe hier →
+    Implies hier parameters g h ↔ Implies universe parameters g h
+
+-- where a universe that has every class named doesn't imply, a shape of its own says so
+abbrev pub ImplicationIsDecided : Type 0
+ImplicationIsDecided = (hier : Hier) (parameters : List Ty) (g h : Guard) → IsUniverse hier → AreSeen hier parameters (g ∷ h ∷ []) → Implies hier parameters g h ⊎ Refuted hier parameters g h
+
 abbrev pub BeatingIsTransitive : Type 0
 BeatingIsTransitive = (hier : Hier) (parameters : List Ty) (a b c : Body) → AreTyped hier (root_types parameters) (paths_of (whole_guard a)) → AreTyped hier (root_types parameters) (paths_of (whole_guard b)) →
     Beats hier parameters a b → Beats hier parameters b c → Beats hier parameters a c
+
+-- beating over a universe that has every class named is beating over each universe that extends it, and so the same body is selected
+abbrev pub BeatingIsStable : Type 0
+BeatingIsStable = (universe hier : Hier) (parameters : List Ty) (a b : Body) → IsUniverse hier → AreSeen hier parameters (whole_guard a ∷ whole_guard b ∷ []) → Extends universe hier →
+    Beats hier parameters a b ↔ Beats universe parameters a b
+
+abbrev pub SelectionIsStable : Type 0
+SelectionIsStable = (larger hier : Hier) (parameters : List Ty) (universe : Hier) (shape : Shape) (chain : List Body) (i : ℕ) → IsUniverse hier → AreSeen hier parameters (map whole_guard chain) → Extends larger hier →
+    Selected hier parameters universe shape chain i ↔ Selected larger parameters universe shape chain i
 
 abbrev pub BeatingIsOneWay : Type 0
 BeatingIsOneWay = (hier : Hier) (parameters : List Ty) (a b : Body) → Beats hier parameters a b → Beats hier parameters b a → ⊥
@@ -62,4 +81,11 @@ TheGreatestIsSelected = (hier : Hier) (parameters : List Ty) (universe : Hier) (
 abbrev pub SettledPairsSelect : Type 0
 SettledPairsSelect = (hier : Hier) (parameters : List Ty) (universe : Hier) (shape : Shape) (chain : List Body) → AreTypedBodies hier parameters chain →
     ((i j : ℕ) (a : Applies universe shape chain i) (b : Applies universe shape chain j) → i ≢ j → Settles hier parameters universe shape chain a.body b.body) →
+    (i : ℕ) → Applies universe shape chain i → (m : ℕ) × Selected hier parameters universe shape chain m
+
+-- where some body is true, and for each two true bodies of which neither beats the other some true body beats both, a body is selected
+abbrev pub CheckedPairsSelect : Type 0
+CheckedPairsSelect = (hier : Hier) (parameters : List Ty) (universe : Hier) (shape : Shape) (chain : List Body) → IsUniverse hier → AreSeen hier parameters (map whole_guard chain) → AreTypedBodies hier parameters chain →
+    ((i j : ℕ) (a : Applies universe shape chain i) (b : Applies universe shape chain j) → i ≢ j → (Beats hier parameters a.body b.body → ⊥) → (Beats hier parameters b.body a.body → ⊥) →
+    BeatsBoth hier parameters universe shape chain a.body b.body) →
     (i : ℕ) → Applies universe shape chain i → (m : ℕ) × Selected hier parameters universe shape chain m

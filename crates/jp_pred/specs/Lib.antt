@@ -5,6 +5,7 @@ pub mod Laws
 pub mod Marks
 pub mod Names
 pub mod Paths
+pub mod Seen
 pub mod Selection
 pub mod Shapes
 pub mod Truth

@@ -26,11 +26,11 @@ pub record Beats (hier : Hier) (parameters : List Ty) (first second : Body) : Ty
   pub implies : Implies hier parameters (whole_guard first) (whole_guard second)
   pub strictly : Implies hier parameters (whole_guard second) (whole_guard first) → ⊥
 
--- body i of the chain is there and is true on the shape
+-- body i of the chain is there and its guard is true on the shape, whatever its class is
 pub record Applies (universe : Hier) (shape : Shape) (chain : List Body) (i : ℕ) : Type 0 where
   pub body : Body
   pub at : slice_get chain i ≡ Some body
-  pub true_there : is_true universe shape (whole_guard body) ≡ true
+  pub true_there : is_true universe shape body.1 ≡ true
 
 -- body i of the chain is true on the shape, and beats every other body that is true on it
 pub record Selected (hier : Hier) (parameters : List Ty) (universe : Hier) (shape : Shape) (chain : List Body) (i : ℕ) : Type 0 where

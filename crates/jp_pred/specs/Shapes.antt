@@ -55,13 +55,13 @@ HasEntry shape path = IsSome (entry_of path shape.refs) ⊎ IsSome (entry_of pat
 abbrev pub LeadsTo : Hier → Shape → Path → Word → Type 0
 LeadsTo universe shape path class = (kind : Kind) × (entry_of path shape.refs ≡ Some kind) × IsOf universe kind (ty.Class class)
 
--- a shape over the roots' types, the universe, and the paths with their prefixes
+-- a shape over the roots' types, the universe, and the paths with their prefixes; other paths may have entries too, where they are reached
 pub record IsShape (universe : Hier) (roots : List Ty) (paths : List Path) (shape : Shape) : Type 0 where
   -- each root has an entry
   pub root : (i : ℕ) (t : Ty) → slice_get roots i ≡ Some t → HasEntry shape (root_path i)
   -- a longer path of the set has an entry where its prefix has one of a kind below the class of the last step
   pub longer : (path : Path) (s : PathStep) → In (extend path s) (prefixes paths) → LeadsTo universe shape path s.class → HasEntry shape (extend path s)
-  -- and no path has an entry elsewhere
+  -- and a longer path, of the set or not, has an entry only there
   pub defined : (path : Path) (s : PathStep) → HasEntry shape (extend path s) → LeadsTo universe shape path s.class
   -- each entry fits the path's declared type
   pub refs : (path : Path) (kind : Kind) → entry_of path shape.refs ≡ Some kind → RefFits universe kind (path_type universe roots path)

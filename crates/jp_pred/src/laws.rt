@@ -1,6 +1,6 @@
 //! Laws of the definitions, each as the contract of a function that does nothing.
 
-ghost use Rattle.jp_pred.specs.Laws.{BelowIsDecided, KindsAreDecided, BelowIsKept, ExtensionIsTransitive, ImplicationIsReflexive, ImplicationIsTransitive, ImplicationIsKept, BeatingIsTransitive, BeatingIsOneWay, OneBodyIsSelected, TheGreatestIsSelected, SettledPairsSelect};
+ghost use Rattle.jp_pred.specs.Laws.{BelowIsDecided, KindsAreDecided, BelowIsKept, ExtensionIsTransitive, ImplicationIsReflexive, ImplicationIsTransitive, ImplicationIsKept, ImplicationIsStable, ImplicationIsDecided, BeatingIsTransitive, BeatingIsStable, SelectionIsStable, BeatingIsOneWay, OneBodyIsSelected, TheGreatestIsSelected, SettledPairsSelect, CheckedPairsSelect};
 
 /// In a hierarchy without cycles, what is computed of two classes is whether one is below the other.
 pub fn below_is_decided()
@@ -37,9 +37,29 @@ pub fn implication_is_kept()
     ensures { ImplicationIsKept }
 {}
 
+/// What a universe implies, each hierarchy that it extends and that has every class named implies, and the other way round.
+pub fn implication_is_stable()
+    ensures { ImplicationIsStable }
+{}
+
+/// Over a universe that has every class named, an implication holds, or a shape of that universe refutes it.
+pub fn implication_is_decided()
+    ensures { ImplicationIsDecided }
+{}
+
 /// Beating is transitive among bodies whose guards' paths have types.
 pub fn beating_is_transitive()
     ensures { BeatingIsTransitive }
+{}
+
+/// Bodies beat each other over a universe that has every class named as they do over each universe that extends it.
+pub fn beating_is_stable()
+    ensures { BeatingIsStable }
+{}
+
+/// And so the same body is selected.
+pub fn selection_is_stable()
+    ensures { SelectionIsStable }
 {}
 
 /// No two bodies beat each other.
@@ -60,4 +80,9 @@ pub fn the_greatest_is_selected()
 /// Where each two true bodies are settled, some body is selected: from pairs to sets.
 pub fn settled_pairs_select()
     ensures { SettledPairsSelect }
+{}
+
+/// Where some body is true, and each two true bodies of which neither beats the other are both beaten by a true one, some body is selected.
+pub fn checked_pairs_select()
+    ensures { CheckedPairsSelect }
 {}

@@ -16,10 +16,10 @@ mod what;
 pub use guard::{Atom, Guard, Row, Term};
 pub use hier::{Hier, SeenClass};
 pub use laws::{
-    beating_is_one_way, beating_is_transitive, below_is_decided, below_is_kept,
-    extension_is_transitive, implication_is_kept, implication_is_reflexive,
-    implication_is_transitive, kinds_are_decided, one_body_is_selected, settled_pairs_select,
-    the_greatest_is_selected,
+    beating_is_one_way, beating_is_stable, beating_is_transitive, below_is_decided, below_is_kept,
+    checked_pairs_select, extension_is_transitive, implication_is_decided, implication_is_kept,
+    implication_is_reflexive, implication_is_stable, implication_is_transitive, kinds_are_decided,
+    one_body_is_selected, selection_is_stable, settled_pairs_select, the_greatest_is_selected,
 };
 pub use name::Name;
 pub use path::{Path, PathStep};
