@@ -6,7 +6,8 @@ use Rattle.jp_store.specs.declared.value.TrapKind.{TrapKind}
 use Rattle.jp_store.specs.declared.outcome.Outcome.{Outcome}
 use Rattle.jp_store.specs.declared.outcome.Outcome.TheVariants.{Fine, Trap, Wrong}
 use Rattle.jp_store.specs.Work.{Op}
-use Rattle.jp_meaning.specs.Does.{Call, Does, Gives, Traps, Ticks, Prints, Shows, Reads, Works, Calls, Limit, Stuck, then_do, do_of, found}
+use Rattle.jp_does.specs.Does.{Gives, Traps, Ticks, Prints, Shows, Reads, Works, Calls, Limit, Stuck, then_do, do_of, found}
+use Rattle.jp_meaning.specs.Does.{Call, Does}
 use Rattle.jp_meaning.specs.Expressions.{truth_of, by_truth}
 
 -- the second does what the first does, and whatever it likes where the first is at its limit

@@ -22,14 +22,14 @@ use Rattle.jp_meaning.specs.declared.stmt.TypedStmtKind.{TypedStmtKind}
 use Rattle.jp_meaning.specs.declared.stmt.TypedStmtKind.TheVariants as stmt
 use Rattle.jp_meaning.specs.declared.unit.TypedPart.TheVariants as part
 use Rattle.jp_meaning.specs.declared.unit.TypedClass.{TypedClass}
-use Rattle.jp_store.specs.declared.value.Value.{Value}
-use Rattle.jp_store.specs.declared.value.Value.TheVariants.{Int, Null}
+use Rattle.jp_store.specs.declared.value.Value.TheVariants.{Int}
 use Rattle.jp_store.specs.declared.value.Kind.TheVariants.{Number}
 use Rattle.jp_store.specs.declared.value.TrapKind.TheVariants.{OutOfBounds}
 use Rattle.jp_meaning.specs.declared.expr.TypedKind.TheOpen as layer
-use Rattle.jp_meaning.specs.Does.{Does, Gives, Stuck, then_do, do_of, found}
+use Rattle.jp_does.specs.Does.{Gives, Stuck, then_do, do_of, found}
+use Rattle.jp_meaning.specs.Does.{Does}
 use Rattle.jp_meaning.specs.Signs.{change_of}
-use Rattle.jp_meaning.specs.Expressions.{Meant, meant, meant_step, of_kind}
+use Rattle.jp_meaning.specs.Expressions.{Locals, Meant, meant, meant_step, of_kind}
 use Rattle.jp_meaning.specs.Statements.{Left, Returned, skip, turns, in_order, assign, put_local, does}
 use Rattle.jp_meaning.specs.Members.{returned}
 use Rattle.jp_meaning.specs.Choice.{NoneIsTrue, Selects}
@@ -76,12 +76,12 @@ program locals block = record { classes = main_class locals block ∷ []; main =
 
 -- what a statement does, by the turns that its loops may make
 abbrev Turned : Type 0
-Turned = ℕ → List Value → Does Left
+Turned = ℕ → Locals → Does Left
 
 -- what the program comes to, where its statements do this
 abbrev outcome : Program → ℕ → List Turned → List ℕ → ℕ → Result
 outcome p locals ds input n =
-    result_of input (play (calls p (suc n)) (then_do (in_order ds (suc n) (replicate (locals - 0) Null)) returned) (first_world p input n))
+    result_of input (play (calls p (suc n)) (then_do (in_order ds (suc n) (replicate (locals - 0) None)) (returned None)) (first_world p input n))
 
 runs : (locals : ℕ) (block : List TypedStmt) (ds : List Turned) → map does block ≡ ds → (input : List ℕ) (n : ℕ) (r : Result) →
     outcome (program locals block) locals ds input n ≡ r → run (program locals block) input n ≡ r
@@ -238,9 +238,9 @@ runs_dispatching : (ds : List Turned) → map does (print call ∷ []) ≡ ds �
     outcome dispatching 0 ds [] n ≡ r → run dispatching [] n ≡ r
 runs_dispatching ds e n r = subst (λ (ds : List Turned). outcome dispatching 0 ds [] n ≡ r → run dispatching [] n ≡ r) e (λ h. h)
 
-five_is : does gives_five ≡ (λ n env. then_do ((N 5).value env) (λ v. do_of (of_kind Number v) (λ w. Gives (Returned w))))
+five_is : does gives_five ≡ (λ n env. then_do ((N 5).value env) (λ v. do_of (of_kind Number v) (λ w. Gives (Returned (Some w)))))
 five_is = does_return here (Some (number 5))
-    ∙ ap (λ (m : Meant). λ n env. then_do (m.value env) (λ v. do_of (of_kind Number v) (λ w. Gives (Returned w)))) (number_is 5 (omega arith))
+    ∙ ap (λ (m : Meant). λ n env. then_do (m.value env) (λ v. do_of (of_kind Number v) (λ w. Gives (Returned (Some w))))) (number_is 5 (omega arith))
 
 no_paths : paths_of guard.True ≡ []
 no_paths = search (rules, on_guards.the_lemmas)

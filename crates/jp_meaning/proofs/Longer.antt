@@ -1,16 +1,19 @@
 -- A run with a tick more.
-use Rattle.std.proofs.Common.{ℕ, zero, suc, List, [], ◌++◌, Option, Some, None, refl, sym, ap, ◌∙◌, arith, append_assoc}
+use Rattle.std.proofs.Common.{ℕ, zero, suc, Bool, true, false, cond, List, [], ◌++◌, Option, Some, None, refl, sym, ap, ◌∙◌, arith, append_assoc}
 use Rattle.std.specs.Prelude.{slice_get}
 use Rattle.std.specs.Fmt.{signed_decimal}
 use Rattle.std.proofs.lemmas.List.{append-nil}
 use Rattle.jp_store.specs.declared.value.Value.{Value}
 use Rattle.jp_store.specs.declared.outcome.Outcome.TheVariants.{Fine, Trap, Wrong}
 use Rattle.jp_store.specs.Work.{Worked, work}
-use Rattle.jp_meaning.specs.Does.{Target, StaticMethod, Constructor, OfClass, OfInterface, OfSuperclass, Call, Does, Gives, Traps, Ticks, Prints, Shows, Reads, Works, Calls, Limit, Stuck}
+use Rattle.jp_does.specs.OpenTrace.{first_of, rest_of}
+use Rattle.jp_meaning.specs.Expressions.{fit}
+use Rattle.jp_does.specs.Does.{Gives, Traps, Ticks, Prints, Shows, Reads, Works, Calls, Limit, Stuck}
+use Rattle.jp_meaning.specs.Does.{Method, Target, StaticMethod, Constructor, OfClass, OfInterface, OfSuperclass, Call, Does}
 use Rattle.jp_meaning.specs.Descriptors.{word_of, kind_of_type}
-use Rattle.jp_meaning.specs.Classes.{Placed, Candidate, placed, static_named, constructor_named, hier_in, chain_of}
+use Rattle.jp_meaning.specs.Classes.{Placed, Candidate, placed, static_named, constructor_named, hier_in, has_family, chain_of}
 use Rattle.jp_meaning.specs.Choice.{Choice, Selects, NoneIsTrue, NoneIsBest}
-use Rattle.jp_meaning.specs.Run.{End, Done, Trapped, NoBody, TwoBodies, IsStuck, More, World, Run, Came, Ended, after, spend, worked, first_of, rest_of, write, play, Program, receiver_class, selected, there, chosen, fit, select_in, call_by, placed_does, member_run, calls, first_world, main_of, run_in, result_of}
+use Rattle.jp_meaning.specs.Run.{End, Done, Trapped, NoBody, TwoBodies, IsStuck, More, World, Run, Came, Ended, after, spend, worked, write, play, Program, receiver_class, selected, there, chosen, select_in, where_declared, call_by, placed_does, member_run, calls, first_world, main_of, run_in, result_of}
 use Rattle.jp_meaning.specs.Laws.{Begins, GoesOn, MoreTicksAgree}
 use Rattle.jp_meaning.proofs.Cuts.{Cut, cut, gives, traps, ticks, prints, shows, reads, working, calling, stuck, cut_refl}
 use Rattle.jp_meaning.proofs.Turns.{member_cut}
@@ -63,6 +66,13 @@ chosen_grows chain (Selects i) w go h = there_grows (slice_get chain i) w go h
 chosen_grows chain NoneIsTrue w go h = begins_refl w.out
 chosen_grows chain NoneIsBest w go h = begins_refl w.out
 
+cond_grows : (b : Bool) (w : World) (go : Run Value) → Grows w go → Grows w (cond b go (Ended IsStuck w))
+cond_grows true w go h = h
+cond_grows false w go h = begins_refl w.out
+
+declared_grows : (p : Program) (m : Method) (w : World) (go : Run Value) → Grows w go → Grows w (where_declared p m w go)
+declared_grows p m w go h = cond_grows (has_family p.classes m) w go h
+
 module _ (p : Program) (n : ℕ) (call : Call → World → Run Value) (grows : (c : Call) (w : World) → Grows w (call c w)) where
   member_grows : (m : Placed) (vs : List Value) (w : World) → Grows w (member_run p n call m vs w)
   member_grows m vs w = spend_grows w w.ticks _ (play_grows call grows (placed_does p (suc n) m vs))
@@ -74,9 +84,9 @@ module _ (p : Program) (n : ℕ) (call : Call → World → Run Value) (grows : 
   call_grows : (x : Target) (vs : List Value) (w : World) → Grows w (call_by p (member_run p n call) call x vs w)
   call_grows (StaticMethod m) vs w = there_grows (static_named p.classes m) w _ (λ placed. member_grows placed vs w)
   call_grows (Constructor m) vs w = there_grows (constructor_named p.classes m) w _ (λ placed. member_grows placed vs w)
-  call_grows (OfClass m) vs w = there_grows (receiver_class w.store vs) w _ (λ class. select_grows (chain_of p.classes m class) vs w)
-  call_grows (OfInterface m) vs w = there_grows (receiver_class w.store vs) w _ (λ class. select_grows (chain_of p.classes m class) vs w)
-  call_grows (OfSuperclass m) vs w = select_grows (chain_of p.classes m (word_of m.class)) vs w
+  call_grows (OfClass m) vs w = declared_grows p m w _ (there_grows (receiver_class w.store vs) w _ (λ class. select_grows (chain_of p.classes m class) vs w))
+  call_grows (OfInterface m) vs w = declared_grows p m w _ (there_grows (receiver_class w.store vs) w _ (λ class. select_grows (chain_of p.classes m class) vs w))
+  call_grows (OfSuperclass m) vs w = declared_grows p m w _ (select_grows (chain_of p.classes m (word_of m.class)) vs w)
 
 calls_grows : (p : Program) (n : ℕ) (c : Call) (w : World) → Grows w (calls p n c w)
 calls_grows p zero c w = begins_refl w.out
@@ -128,6 +138,13 @@ chosen_later chain (Selects i) w go next h = there_later (slice_get chain i) w g
 chosen_later chain NoneIsTrue w go next h = ended NoBody w
 chosen_later chain NoneIsBest w go next h = ended TwoBodies w
 
+cond_later : (b : Bool) (w : World) (go next : Run Value) → Later go next → Later (cond b go (Ended IsStuck w)) (cond b next (Ended IsStuck (one_more w)))
+cond_later true w go next h = h
+cond_later false w go next h = ended IsStuck w
+
+declared_later : (p : Program) (m : Method) (w : World) (go next : Run Value) → Later go next → Later (where_declared p m w go) (where_declared p m (one_more w) next)
+declared_later p m w go next h = cond_later (has_family p.classes m) w go next h
+
 module _ (p : Program) (n : ℕ) (later : (c : Call) (w : World) → Later (calls p n c w) (calls p (suc n) c (one_more w))) where
   member_later : (m : Placed) (vs : List Value) (w : World) → Later (member_run p n (calls p n) m vs w) (member_run p (suc n) (calls p (suc n)) m vs (one_more w))
   member_later m vs w = spend_later w w.ticks (play (calls p n) (placed_does p (suc n) m vs)) (play (calls p (suc n)) (placed_does p (suc (suc n)) m vs))
@@ -143,9 +160,9 @@ module _ (p : Program) (n : ℕ) (later : (c : Call) (w : World) → Later (call
   call_later : (x : Target) (vs : List Value) (w : World) → Later (call_by p (member_run p n (calls p n)) (calls p n) x vs w) (call_by p (member_run p (suc n) (calls p (suc n))) (calls p (suc n)) x vs (one_more w))
   call_later (StaticMethod m) vs w = there_later (static_named p.classes m) w _ _ (λ placed. member_later placed vs w)
   call_later (Constructor m) vs w = there_later (constructor_named p.classes m) w _ _ (λ placed. member_later placed vs w)
-  call_later (OfClass m) vs w = there_later (receiver_class w.store vs) w _ _ (λ class. select_later (chain_of p.classes m class) vs w)
-  call_later (OfInterface m) vs w = there_later (receiver_class w.store vs) w _ _ (λ class. select_later (chain_of p.classes m class) vs w)
-  call_later (OfSuperclass m) vs w = select_later (chain_of p.classes m (word_of m.class)) vs w
+  call_later (OfClass m) vs w = declared_later p m w _ _ (there_later (receiver_class w.store vs) w _ _ (λ class. select_later (chain_of p.classes m class) vs w))
+  call_later (OfInterface m) vs w = declared_later p m w _ _ (there_later (receiver_class w.store vs) w _ _ (λ class. select_later (chain_of p.classes m class) vs w))
+  call_later (OfSuperclass m) vs w = declared_later p m w _ _ (select_later (chain_of p.classes m (word_of m.class)) vs w)
 
 calls_later : (p : Program) (n : ℕ) (c : Call) (w : World) → Later (calls p n c w) (calls p (suc n) c (one_more w))
 calls_later p zero c w = more w _ (calls_grows p 1 c (one_more w))

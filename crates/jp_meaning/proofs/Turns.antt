@@ -1,9 +1,10 @@
 -- With more turns for its loops a member does the same, and goes on where it was at its limit.
-use Rattle.std.proofs.Common.{ℕ, zero, suc, ◌≤◌, List, [], ◌∷◌, map, Some, None, subst, sym, arith}
+use Rattle.std.proofs.Common.{ℕ, zero, suc, ◌≤◌, List, [], ◌∷◌, map, Option, Some, None, subst, sym, arith}
 use Rattle.jp_pred.specs.declared.hier.Hier.{Hier}
 use Rattle.iface_codec.specs.declared.iface.Iface.{Iface}
 use Rattle.iface_codec.specs.declared.iface.IfaceMethod.{IfaceMethod}
 use Rattle.jp_store.specs.declared.value.Value.{Value}
+use Rattle.jp_store.specs.declared.value.Kind.{Kind}
 use Rattle.jp_meaning.specs.declared.stmt.TypedStmt.{TypedStmt}
 use Rattle.jp_meaning.specs.declared.stmt.TypedStmtKind.{TypedStmtKind, TypedStmtKind-F}
 use Rattle.jp_meaning.specs.declared.stmt.TypedStmtKind.TheOpen as form
@@ -12,33 +13,33 @@ use Rattle.jp_meaning.specs.declared.unit.TypedMember.{TypedMember}
 use Rattle.jp_meaning.specs.declared.unit.TypedPart.{TypedPart}
 use Rattle.jp_meaning.specs.declared.unit.TypedPart.TheVariants as part
 use Rattle.jp_meaning.specs.Does.{Does}
-use Rattle.jp_meaning.specs.Expressions.{value_of}
+use Rattle.jp_meaning.specs.Expressions.{Locals, value_of}
 use Rattle.jp_meaning.specs.Statements.{Left, Goes, Breaks, Continues, Returned, go_on, around, turns, skip, in_order, test_of, does_step, does, block_does}
 use Rattle.jp_meaning.specs.Members.{read_aliases, locals_of, returned, super_first, statements_do, part_does, member_does}
 use Rattle.jp_meaning.proofs.Cuts.{Cut, cut, gives, stuck, ticks, cut_refl, then_cut, found_cut, by_cut}
 
 -- what a statement does, by the turns that its loops may make
 abbrev Turned : Type 0
-Turned = ℕ → List Value → Does Left
+Turned = ℕ → Locals → Does Left
 
 -- with more turns it does the same, or goes on
 abbrev Sure : Turned → Type 0
-Sure d = (k n : ℕ) → k ≤ n → (env : List Value) → Cut (d k env) (d n env)
+Sure d = (k n : ℕ) → k ≤ n → (env : Locals) → Cut (d k env) (d n env)
 
-go_on_cut : (next more : List Value → Does Left) → ((env : List Value) → Cut (next env) (more env)) → (l : Left) → Cut (go_on next l) (go_on more l)
+go_on_cut : (next more : Locals → Does Left) → ((env : Locals) → Cut (next env) (more env)) → (l : Left) → Cut (go_on next l) (go_on more l)
 go_on_cut next more h (Goes env) = h env
 go_on_cut next more h (Breaks env) = gives (Breaks env)
 go_on_cut next more h (Continues env) = gives (Continues env)
 go_on_cut next more h (Returned v) = gives (Returned v)
 
-around_cut : (next more : List Value → Does Left) → ((env : List Value) → Cut (next env) (more env)) → (l : Left) → Cut (around next l) (around more l)
+around_cut : (next more : Locals → Does Left) → ((env : Locals) → Cut (next env) (more env)) → (l : Left) → Cut (around next l) (around more l)
 around_cut next more h (Goes env) = h env
 around_cut next more h (Breaks env) = gives (Goes env)
 around_cut next more h (Continues env) = h env
 around_cut next more h (Returned v) = gives (Returned v)
 
-turns_cut : (k n : ℕ) → k ≤ n → (test : List Value → Does Value) (change change' body body' : List Value → Does Left) →
-    ((env : List Value) → Cut (change env) (change' env)) → ((env : List Value) → Cut (body env) (body' env)) → (env : List Value) →
+turns_cut : (k n : ℕ) → k ≤ n → (test : Locals → Does Value) (change change' body body' : Locals → Does Left) →
+    ((env : Locals) → Cut (change env) (change' env)) → ((env : Locals) → Cut (body env) (body' env)) → (env : Locals) →
     Cut (turns k test change body env) (turns n test change' body' env)
 turns_cut zero n le test change change' body body' g h env = cut _
 turns_cut (suc k) zero le test change change' body body' g h env = absurd (omega arith)
@@ -92,14 +93,14 @@ block_sure : (ss : List TypedStmt) → Sure (block_does ss)
 block_sure [] k n le env = cut_refl _
 block_sure (s ∷ ss) k n le env = then_cut _ _ (does_sure s k n le env) (go_on_cut _ _ (block_sure ss k n le))
 
-statements_cut : (m : TypedMember) (k n : ℕ) → k ≤ n → (env : List Value) → Cut (statements_do m k env) (statements_do m n env)
-statements_cut m k n le env = then_cut _ _ (block_sure m.block k n le env) (λ l. cut_refl (returned l))
+statements_cut : (result : Option Kind) (m : TypedMember) (k n : ℕ) → k ≤ n → (env : Locals) → Cut (statements_do result m k env) (statements_do result m n env)
+statements_cut result m k n le env = then_cut _ _ (block_sure m.block k n le env) (λ l. cut_refl (returned result l))
 
 part_cut : (hier : Hier) (head : Iface) (m : TypedMember) (p : TypedPart) (k n : ℕ) → k ≤ n → (vs : List Value) → Cut (part_does hier head m p k vs) (part_does hier head m p n vs)
 part_cut hier head m (part.Field at) k n le vs = stuck
 part_cut hier head m (part.Method at) k n le vs =
-    found_cut {A = IfaceMethod} _ _ _ (λ method. then_cut _ _ (cut_refl (read_aliases hier method.aliases vs)) (λ more. statements_cut m k n le _))
-part_cut hier head m (part.Constructor at) k n le vs = then_cut _ _ (cut_refl (super_first head m (locals_of m vs))) (λ done. statements_cut m k n le _)
+    found_cut {A = IfaceMethod} _ _ _ (λ method. then_cut _ _ (cut_refl (read_aliases hier method.aliases vs)) (λ more. statements_cut _ m k n le _))
+part_cut hier head m (part.Constructor at) k n le vs = then_cut _ _ (cut_refl (super_first head m (locals_of m vs))) (λ done. statements_cut None m k n le _)
 
 pub member_cut : (hier : Hier) (head : Iface) (m : TypedMember) (k n : ℕ) → k ≤ n → (vs : List Value) → Cut (member_does hier head m k vs) (member_does hier head m n vs)
 member_cut hier head m k n le vs = part_cut hier head m m.part k n le vs

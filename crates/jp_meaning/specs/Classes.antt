@@ -1,11 +1,12 @@
 -- Where named members stand among resolved classes.
 use Rattle.std.specs.Prelude.{ℕ, zero, suc, List, [], ◌∷◌, map, length, Bool, true, false, ◌&&◌, ◌||◌, Option, Some, None, option_and_then, slice_get, cond, if◌then◌else◌}
-use Rattle.std.specs.List.{flat_map, filter_map}
+use Rattle.std.specs.List.{flat_map, filter_map, list_any}
 use Rattle.std.specs.Option.{option_map, option_map_or}
 use Rattle.std.specs.Str.{bytes_eq}
 use Rattle.jp_pred.specs.declared.ty.Ty.TheVariants as ty
 use Rattle.jp_pred.specs.declared.hier.Hier.{Hier}
 use Rattle.jp_pred.specs.Names.{Word, same}
+use Rattle.jp_pred.specs.Hierarchy.{is_below}
 use Rattle.iface_codec.specs.declared.iface.Iface.{Iface}
 use Rattle.iface_codec.specs.declared.iface.IfaceField.{IfaceField}
 use Rattle.iface_codec.specs.declared.iface.IfaceMethod.{IfaceMethod}
@@ -68,9 +69,24 @@ is_static kind.PrivateStatic = true
 is_static kind.Abstract = false
 is_static kind.Body = false
 
+-- a method that is selected among the bodies of its family
+abbrev pub is_virtual : MethodKind → Bool
+is_virtual kind.Body = true
+is_virtual kind.Abstract = true
+is_virtual kind.Static = false
+is_virtual kind.PrivateStatic = false
+
 -- whether a method has the name and the descriptor
 abbrev pub is_named : Method → IfaceMethod → Bool
 is_named named m = bytes_eq m.name named.name && bytes_eq (method_descriptor m.params m.result) named.descriptor
+
+-- whether a class declares a method of a family
+abbrev pub declares : Method → TypedClass → Bool
+declares named c = list_any (λ m. is_virtual m.kind && is_named named m) c.head.methods
+
+-- whether the named class, or one that it is below, declares a method of the family
+abbrev pub has_family : List TypedClass → Method → Bool
+has_family classes named = list_any (λ c. is_below (hier_in classes) (word_of named.class) c.head.name && declares named c) classes
 
 -- a member that is a method
 abbrev pub as_method : Iface → TypedMember → TypedPart → Option Candidate

@@ -20,7 +20,7 @@ GoesOn NoBody first second = second ≡ first
 GoesOn TwoBodies first second = second ≡ first
 GoesOn IsStuck first second = second ≡ first
 
--- with one tick more a program means the same, or its output is longer
+-- with one tick more a program means the same, or, where it wanted a tick, its output goes on
 abbrev pub MoreTicksAgree : Type 0
 MoreTicksAgree = (p : Program) (input : List ℕ) (n : ℕ) → GoesOn (run p input n).end (run p input n) (run p input (suc n))
 

@@ -1,5 +1,5 @@
 -- The meaning of a program: its run from `main`, with so many ticks.
-use Rattle.std.specs.Prelude.{ℕ, zero, suc, ◌-◌, ℤ, pos, negsuc, List, [], ◌∷◌, ◌++◌, length, map, Option, Some, None, option_and_then, slice_get, codes}
+use Rattle.std.specs.Prelude.{ℕ, cond, zero, suc, ◌-◌, List, [], ◌++◌, length, map, Option, Some, None, option_and_then, slice_get, codes}
 use Rattle.std.specs.List.{flat_map}
 use Rattle.std.specs.Option.{option_map, option_map_or}
 use Rattle.std.specs.Fmt.{signed_decimal}
@@ -11,7 +11,6 @@ use Rattle.jp_pred.specs.Selection.{Body}
 use Rattle.jp_store.specs.declared.value.Value.{Value}
 use Rattle.jp_store.specs.declared.value.Value.TheVariants.{Int, Long, Null, Ref, Text}
 use Rattle.jp_store.specs.declared.value.TrapKind.{TrapKind}
-use Rattle.jp_store.specs.declared.value.Kind.{Kind}
 use Rattle.jp_store.specs.declared.value.ClassAt.TheVariants.{Root, Listed}
 use Rattle.jp_store.specs.declared.heap.Thing.{Thing}
 use Rattle.jp_store.specs.declared.heap.Thing.TheVariants.{Object, Array}
@@ -20,16 +19,18 @@ use Rattle.jp_store.specs.Store.{Store, first_store}
 use Rattle.jp_store.specs.Work.{Worked, work}
 use Rattle.jp_pred.specs.Names.{object}
 use Rattle.jp_meaning.specs.declared.unit.TypedClass.{TypedClass}
-use Rattle.jp_meaning.specs.Does.{Method, Target, StaticMethod, Constructor, OfClass, OfInterface, OfSuperclass, Call, Does, Gives, Traps, Ticks, Prints, Shows, Reads, Works, Calls, Limit, Stuck, do_of}
+use Rattle.jp_does.specs.OpenTrace.{first_of, rest_of}
+use Rattle.jp_does.specs.Does.{Gives, Traps, Ticks, Prints, Shows, Reads, Works, Calls, Limit, Stuck}
+use Rattle.jp_meaning.specs.Does.{Method, Target, StaticMethod, Constructor, OfClass, OfInterface, OfSuperclass, Call, Does}
 use Rattle.jp_meaning.specs.Descriptors.{word_of, method_of, kind_of_type}
-use Rattle.jp_meaning.specs.Expressions.{of_kind}
+use Rattle.jp_meaning.specs.Expressions.{fit}
 use Rattle.jp_meaning.specs.Members.{member_does}
-use Rattle.jp_meaning.specs.Classes.{class_of_head, hier_in, Placed, Candidate, placed, static_named, constructor_named, chain_of}
+use Rattle.jp_meaning.specs.Classes.{class_of_head, hier_in, Placed, Candidate, placed, static_named, constructor_named, has_family, chain_of}
 use Rattle.jp_meaning.specs.States.{name_at, shape_of}
 use Rattle.jp_meaning.specs.Choice.{Question, Choice, Selects, NoneIsTrue, NoneIsBest}
 
 -- how a run ends: `main` returned; a trap; a call found no body that is true, or several and none that beats all others;
--- a named thing wasn't there; or a tick was wanted and there was none
+-- a named thing wasn't there, or a value was of another kind; or a tick was wanted and there was none
 pub data End : Type 0 where
   Done : End
   Trapped : TrapKind → End
@@ -65,16 +66,6 @@ abbrev pub worked : {A : Type 0} → World → Worked → (Value → World → R
 worked w (Fine r) go = go r.0 (record w { store = r.1 })
 worked w (Trap kind) go = Ended (Trapped kind) w
 worked w Wrong go = Ended IsStuck w
-
--- the next byte, or -1 at the end of the input
-abbrev pub first_of : List ℕ → ℤ
-first_of [] = negsuc 0
-first_of (b ∷ bs) = pos b
-
--- the input behind the next byte
-abbrev pub rest_of : List ℕ → List ℕ
-rest_of [] = []
-rest_of (b ∷ bs) = bs
 
 -- the output with more bytes
 abbrev pub write : List ℕ → World → World
@@ -141,10 +132,6 @@ chosen chain NoneIsTrue w go = Ended NoBody w
 chosen chain NoneIsBest w go = Ended TwoBodies w
 
 -- the answer of a method with such a result
-abbrev pub fit : Option Kind → Value → Does Value
-fit None v = Gives Null
-fit (Some kind) v = do_of (of_kind kind v) Gives
-
 abbrev pub fitted : Ty → (Call → World → Run Value) → Value → World → Run Value
 fitted result call v w = play call (fit (kind_of_type result) v) w
 
@@ -154,15 +141,19 @@ select_in p member call chain vs w =
     there (selected p chain vs w.store) w (λ choice. chosen chain choice w (λ c.
     after (member (placed c) vs w) (fitted c.method.result call)))
 
+-- goes on where the family of a call is declared
+abbrev pub where_declared : Program → Method → World → Run Value → Run Value
+where_declared p m w go = cond (has_family p.classes m) go (Ended IsStuck w)
+
 -- a call, where `member` runs a member
 abbrev pub call_by : Program → (Placed → List Value → World → Run Value) → (Call → World → Run Value) → Target → List Value → World → Run Value
 call_by p member call (StaticMethod m) vs w = there (static_named p.classes m) w (λ placed. member placed vs w)
 call_by p member call (Constructor m) vs w = there (constructor_named p.classes m) w (λ placed. member placed vs w)
 call_by p member call (OfClass m) vs w =
-    there (receiver_class w.store vs) w (λ class. select_in p member call (chain_of p.classes m class) vs w)
+    where_declared p m w (there (receiver_class w.store vs) w (λ class. select_in p member call (chain_of p.classes m class) vs w))
 call_by p member call (OfInterface m) vs w =
-    there (receiver_class w.store vs) w (λ class. select_in p member call (chain_of p.classes m class) vs w)
-call_by p member call (OfSuperclass m) vs w = select_in p member call (chain_of p.classes m (word_of m.class)) vs w
+    where_declared p m w (there (receiver_class w.store vs) w (λ class. select_in p member call (chain_of p.classes m class) vs w))
+call_by p member call (OfSuperclass m) vs w = where_declared p m w (select_in p member call (chain_of p.classes m (word_of m.class)) vs w)
 
 -- what a member of a program does
 abbrev pub placed_does : Program → ℕ → Placed → List Value → Does Value
