@@ -1,5 +1,6 @@
 ghost use Rattle.std.specs.Prelude.{◌≡◌, ◌↔◌, ◌-◌, ◌^◌, ◌≤◌, min, not, true, ◌&&◌, ◌||◌, ◌==◌, nat_lt, length, IsTrue};
 ghost use Rattle.std.specs.List.{list_all, list_any};
+ghost use Rattle.class_form.specs.Layout.{code_content};
 ghost use Rattle.class_form.specs.WellFormed.{WellFormed, names, is_utf8, is_class, is_name_and_type, is_code_text, is_spaced, text_fits, has_right_indices, attribute_fits, attributes_fit, code_size, code_fits, any_code_fits, code_count, member_fits, has_code, is_text_byte, is_super_class, is_well_formed, pool_fits, head_fits, count_members_fit, has_code_name, is_code};
 
 use crate::{Attribute, ClassFile, Code, Const, MemberInfo};
@@ -51,7 +52,9 @@ pub fn names_code(constants: &[Const], index: u16) -> bool
 /// How many bytes the content of the attribute `Code` takes, or `u64::MAX` where that is more.
 #[tactic(auto, unfolding(crate::specs::WellFormed::code_size))]
 pub fn code_size(code: &Code) -> u64
-    ensures { result ≡ min (code_size code.now) (2 ^ 64 - 1) }
+    ensures sized { result ≡ min (code_size code.now) (2 ^ 64 - 1) }
+    // That many bytes is the content, as the standard lays it out.
+    ensures length_of_content { result ≡ min (length (code_content code.now)) (2 ^ 64 - 1) }
 {
     let mut size = (code.bytes.bytes().len() as u64).saturating_add(12);
     for attribute in code.attributes.as_slice() {

@@ -1,10 +1,10 @@
 -- A class file that is read is well formed, and its bytes are an encoding of it.
-use Rattle.std.proofs.Common.{◌≡◌, ℕ, zero, suc, ◌<◌, Bool, true, false, not, ◌&&◌, ◌||◌, cond, eqb, ltb, List, [], ◌∷◌, ◌++◌, length, Result, Ok, Err, refl, sym, ap, subst, ◌∙◌, append_assoc, arith}
+use Rattle.std.proofs.Common.{◌≡◌, ℕ, zero, suc, ◌<◌, Bool, true, false, not, ◌&&◌, ◌||◌, cond, eqb, ltb, List, [], ◌∷◌, ◌++◌, length, get_or, Result, Ok, Err, refl, sym, ap, subst, ◌∙◌, append_assoc, arith, inl, inr}
 use Rattle.std.specs.Prelude.{flat_map, IfOk}
-use Rattle.std.specs.List.{list_all, list_any, AllByRecursion}
-use Rattle.std.proofs.lemmas.Bool.{eqb-true, lt-ltb, ltb-true}
-use Rattle.std.proofs.lemmas.List.{append-nil, nil_from_length}
-use Rattle.std.proofs.lemmas.List.Elements.{All-from_recursion, recursion_from_All}
+use Rattle.std.specs.List.{list_all, list_any, All, AllByRecursion}
+use Rattle.std.proofs.lemmas.Bool.{cases_lt, eqb-true, lt-ltb, ltb-true}
+use Rattle.std.proofs.lemmas.List.{append-nil, get_or_past, nil_from_length}
+use Rattle.std.proofs.lemmas.List.Elements.{All-from_recursion, All-get_or, recursion_from_All}
 use Rattle.class_form.specs.declared.constant.Const.{Const}
 use Rattle.class_form.specs.declared.class_file.ClassFile.{ClassFile}
 use Rattle.class_form.specs.declared.member.Attribute.{Attribute}
@@ -202,6 +202,17 @@ offset_ok : (n : ℕ) (r : Result ClassFile Defect) (file : ClassFile) → at_of
 offset_ok n (Ok f) file e = cc
 offset_ok n (Err d) file e = absurd cc
 
+byte_at : (bytes : List ℕ) (i : ℕ) → All (λ b. b < 256) bytes → get_or bytes i 0 < 256
+byte_at bytes i fit =
+    elim (cases_lt i (length bytes)) [
+      | inl lt ↦ All-get_or (λ b. b < 256) bytes i 0 lt fit
+      | inr le ↦ rw (get_or_past bytes i 0 le) (omega arith)
+    ]
+
+pub is_encoded : (bytes : List ℕ) (file : ClassFile) → All (λ b. b < 256) bytes → class_of bytes ≡ Ok file → WellFormed file × Encodes file bytes
+unfolding class_of IsIt
+is_encoded bytes file fit read = file_takes bytes file (λ i. byte_at bytes i fit) (offset_ok (length bytes) (file_at bytes) file read)
+
 pub is_found : (bytes : List ℕ) (r : Result ClassFile ClassErr) → IsBytes bytes → Answers r (class_of bytes) → IfOk r (λ file. WellFormed file × Encodes file bytes)
 unfolding class_of IsIt
 is_found bytes (Ok file) fits given = file_takes bytes file fits (offset_ok (length bytes) (file_at bytes) file given)
@@ -271,8 +282,11 @@ file_again file f m w fields methods numbers flags =
       attributes_again file_edge cs file.attributes [] few w.attributes (omega arith),
     ) refl
 
-pub is_only : (bytes : List ℕ) (r : Result ClassFile ClassErr) → Answers r (class_of bytes) → (file : ClassFile) → WellFormed file → Encodes file bytes → Answers r (Ok file)
+pub reads_back : (bytes : List ℕ) (file : ClassFile) → WellFormed file → Encodes file bytes → class_of bytes ≡ Ok file
 unfolding class_of
-is_only bytes r given file w e =
+reads_back bytes file w e =
     let read : file_at bytes ≡ Ok file = ap file_at e.spelled ∙ file_again file e.field_bytes e.method_bytes w e.fields e.methods (recursion_from_All NumberInRange file.constants e.numbers) e.flags in
-    subst (Answers r) (ap (at_offset (length bytes)) read) given
+    ap (at_offset (length bytes)) read
+
+pub is_only : (bytes : List ℕ) (r : Result ClassFile ClassErr) → Answers r (class_of bytes) → (file : ClassFile) → WellFormed file → Encodes file bytes → Answers r (Ok file)
+is_only bytes r given file w e = subst (Answers r) (reads_back bytes file w e) given

@@ -1,4 +1,8 @@
 pub mod FieldLaws
+pub mod Continued
+pub mod ContinuedPool
+pub mod ContinuedParts
+pub mod ContinuedFile
 pub mod PoolLaws
 pub mod PoolAgain
 pub mod AttributeLaws

@@ -86,6 +86,26 @@ fn damaged_heads_and_pools(rt: HostRuntime) {
     }
 }
 
+// The fault of the class `A`, cut behind two bytes that claim 65,535 entries.
+fn claimed(alloc: Global, len: usize) -> Option<ClassFault> {
+    let mut bytes = CLASS_A;
+    for place in len.saturating_sub(2)..len {
+        if let Some(byte) = bytes.get_mut(place) {
+            *byte = 0xff;
+        }
+    }
+    fault_of(alloc, &bytes[..len.min(bytes.len())])
+}
+
+#[test]
+fn counts_of_what_is_not_there(rt: HostRuntime) {
+    let constants_interfaces_fields_methods_attributes = [10, 47, 49, 51, 53];
+    for len in constants_interfaces_fields_methods_attributes {
+        let found = claimed(rt.alloc(), len);
+        assert_eq!(rt; found, at(len as u64, ClassKind::Truncated));
+    }
+}
+
 #[test]
 fn a_byte_behind_the_end(rt: HostRuntime) -> Result<(), Fail> {
     let mut longer = Vec::from_slice(rt.alloc(), &CLASS_A)
