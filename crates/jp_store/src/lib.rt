@@ -9,7 +9,7 @@ mod outcome;
 mod value;
 
 pub use arith::{binary, compares, long_orders, long_products, long_sums, negated, sames, widened};
-pub use heap::{Heap, Thing, Values};
+pub use heap::{Elements, Heap, Thing, Values};
 pub use operator::{BinaryOp, Test};
 pub use outcome::Outcome;
 pub use value::{ClassAt, Element, ElementKind, Kind, TrapKind, Value};

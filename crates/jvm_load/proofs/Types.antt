@@ -4,7 +4,7 @@ use Rattle.std.specs.Prelude.{option_and_then, ◌==◌}
 use Rattle.std.specs.Option.{option_map}
 use Rattle.jp_store.specs.declared.value.Kind.{Kind}
 use Rattle.jvm_table.specs.Descriptors.{first_type, types_in}
-use Rattle.jvm_load.specs.Texts.{joined}
+use Rattle.jvm_load.specs.Texts.{joined, text_behind}
 
 pub ends_at_zero : (text : List ℕ) → types_in zero text ≡ None
 unfolding types_in
@@ -37,3 +37,11 @@ pub ends_short : (n : ℕ) (text : List ℕ) → length text ≡ 0 → types_in 
 ends_short zero text h = ends_at_zero text
 ends_short (suc n) [] h = ends_empty n
 ends_short (suc n) (c ∷ cs) h = absurd (omega (arith, h))
+
+skipped : (kind : Kind) (types : Option (List Kind × List ℕ)) → text_behind (option_map (λ rest. (kind ∷ rest.0, rest.1)) types) ≡ text_behind types
+skipped kind None = refl
+skipped kind (Some types) = refl
+
+pub skips_one : (n c : ℕ) (more : List ℕ) (kind : Kind) (rest : List ℕ) → (c == 41) ≡ false → first_type (c ∷ more) ≡ Some (kind, rest) → text_behind (types_in (suc n) (c ∷ more)) ≡ text_behind (types_in n rest)
+skips_one n c more kind rest h e =
+    ap text_behind (open_case n c more h ∙ ap (option_and_then (λ type. option_map (λ tail. (type.0 ∷ tail.0, tail.1)) (types_in n type.1))) e) ∙ skipped kind (types_in n rest)

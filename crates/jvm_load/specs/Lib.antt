@@ -3,3 +3,5 @@ pub mod Loadable
 pub mod Methods
 pub mod Lines
 pub mod Texts
+pub mod Fields
+pub mod Above

@@ -11,3 +11,7 @@ kind_and_rest type = (type.0, type.1.now)
 -- types that are read behind others
 abbrev pub joined : List Kind → Option (List Kind × List ℕ) → Option (List Kind × List ℕ)
 joined front types = option_map (λ types. (front ++ types.0, types.1)) types
+
+-- the text that is left behind types
+abbrev pub text_behind : Option (List Kind × List ℕ) → Option (List ℕ)
+text_behind types = option_map (λ types. types.1) types

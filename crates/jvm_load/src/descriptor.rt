@@ -1,7 +1,7 @@
 ghost use Rattle.std.specs.Prelude.{◌≡◌, ◌==◌, ◌<◌, ◌∷◌, ◌++◌, [], not, length, position, option_and_then, IfOk, IfSome};
 ghost use Rattle.std.specs.Option.{option_map};
 ghost use Rattle.jvm_table.specs.Descriptors as spec;
-ghost use Rattle.jvm_load.specs.Texts.{kind_and_rest, joined};
+ghost use Rattle.jvm_load.specs.Texts.{kind_and_rest, joined, text_behind};
 
 use jp_store::Kind;
 use std::alloc::{AllocError, Global};
@@ -89,9 +89,9 @@ fn first_type(text: &[u8]) -> Option<(Kind, &[u8])>
     }
 }
 
-/// What the part of a method's descriptor behind its parameters says of the result: `Some(None)` for `V`, and `None`
-/// where it says nothing.
-pub fn result_kind(text: &[u8]) -> Option<Option<Kind>>
+// What the part of a method's descriptor behind its parameters says of the result: `Some(None)` for `V`, and `None`
+// where it says nothing.
+fn result_kind(text: &[u8]) -> Option<Option<Kind>>
     ensures { result ≡ spec.result_of text.now }
 {
     let (c, rest) = text.split_first()?;
@@ -146,4 +146,32 @@ pub fn read_signature(alloc: Global, descriptor: &[u8]) -> Result<Option<Signatu
         return Ok(None);
     };
     Ok(Some(Signature { parameters, result }))
+}
+
+// What is left of a text behind the types up to a `)`.
+fn skip_types(text: &[u8]) -> Option<&[u8]>
+    ensures { option_map (λ rest. rest.now) result ≡ text_behind (spec.types_in (length text.now) text.now) }
+{
+    let mut rest = text;
+    for _i in 0..text.len() {
+        let (c, more) = rest.split_first()?;
+        if *c == b')' {
+            return Some(more);
+        }
+        let (_, more) = first_type(rest)?;
+        rest = more;
+    }
+    None
+}
+
+/// What a method's descriptor says of the result: `Some(None)` where there is none, and `None` where it is no
+/// descriptor. It takes no memory.
+pub fn result_of(descriptor: &[u8]) -> Option<Option<Kind>>
+    ensures { result ≡ option_map (λ s. s.result) (spec.signature_of descriptor.now) }
+{
+    let (c, types) = descriptor.split_first()?;
+    if *c != b'(' {
+        return None;
+    }
+    result_kind(skip_types(types)?)
 }

@@ -1,7 +1,9 @@
 //! Class files that are loaded, and the look-ups of their classes and members.
 #![tactic(auto)]
 
+mod above;
 mod descriptor;
+mod fields;
 mod look_up;
 mod names;
 mod program;
@@ -9,6 +11,7 @@ mod program;
 mod tests;
 mod walk;
 
-pub use descriptor::{Signature, read_signature, result_kind};
-pub use names::{find_class, has_flag, name_of, text};
+pub use descriptor::{Signature, read_signature, result_of};
+pub use fields::FieldPlace;
+pub use names::{find_class, has_flag, is_static_member, name_of, text};
 pub use program::{Program, load};

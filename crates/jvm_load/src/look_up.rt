@@ -6,7 +6,7 @@ ghost use Rattle.jvm_load.specs.Loadable.{IsLoadable, IsLoadableFile};
 ghost use Rattle.jvm_load.specs.Methods as methods;
 
 use crate::Program;
-use crate::names::{find_class, own_field_position, own_method_position};
+use crate::names::{find_class, own_field_position, own_method_position, super_place};
 use class_form::ClassFile;
 
 // The position of a class's own method, the first of this name and descriptor.
@@ -79,6 +79,22 @@ impl Program {
         ensures within { IfSome result (λ at. at < length self.now) }
     {
         find_class(self.files(), name)
+    }
+
+    /// The position of the super class that a file's class names, or `None` exactly where it names none or that one has
+    /// no file.
+    pub fn superclass(&self, class: u32) -> Option<u32>
+        ensures place { result ≡ classes.super_of (classes_of self.now) class }
+        ensures within { IfSome result (λ up. up < length self.now) }
+    {
+        super_place(self.files(), class)
+    }
+
+    /// The position of a file's own first method of this name and descriptor, or `None` exactly where there is none.
+    pub fn own_method(&self, class: u32, name: &[u8], descriptor: &[u8]) -> Option<u32>
+        ensures { result ≡ methods.own_method self.now name.now descriptor.now class }
+    {
+        own_method(self.files(), name, descriptor, class)
     }
 
     /// The file and its first method of this name and descriptor that are found upwards from a file's class, or `None`

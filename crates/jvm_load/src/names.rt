@@ -18,7 +18,7 @@ pub fn text(file: &ClassFile, index: u16) -> &[u8]
     utf8(file, index).unwrap_or(&[])
 }
 
-fn class_text(file: &ClassFile, index: u16) -> &[u8]
+pub(crate) fn class_text(file: &ClassFile, index: u16) -> &[u8]
     ensures { result.now ≡ class_text_at file.now index }
 {
     class_name(file, index).unwrap_or(&[])

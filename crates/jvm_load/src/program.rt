@@ -1,12 +1,14 @@
 ghost use Rattle.std.specs.Prelude.{◌≡◌, ◌<◌, length, IfOk, IfSome, slice_get};
 ghost use Rattle.std.specs.Option.{option_map};
-ghost use Rattle.jp_store.specs.Classes.{line};
+ghost use Rattle.jp_store.specs.Classes.{line, is_below, is_below_in};
 ghost use Rattle.jvm_load.specs.FileClasses.{classes_of};
 ghost use Rattle.jvm_load.specs.Lines.{lines_of};
 ghost use Rattle.jvm_load.specs.Loadable.{IsLoadable, IsLoadableFile};
 
+use crate::above::all_above;
 use crate::walk::walk_up;
 use class_form::ClassFile;
+use jp_store::ClassAt;
 use std::alloc::{AllocError, Global};
 use std::marker::Model;
 
@@ -43,6 +45,7 @@ impl Positions {
 pub struct Program {
     files: Vec<ClassFile>,
     lines: Vec<Positions>,
+    above: Vec<Positions>,
 }
 
 impl Model for Program {
@@ -50,6 +53,7 @@ impl Model for Program {
     ghost use Rattle.class_form.specs.declared.class_file.ClassFile.{ClassFile as File};
     ghost use Rattle.jvm_load.specs.FileClasses.{classes_of};
     ghost use Rattle.jvm_load.specs.Lines.{lines_of};
+    ghost use Rattle.jvm_load.specs.Above.{AreAbove};
     ghost use Rattle.jvm_load.specs.Loadable.{IsLoadable};
 
     ghost Value = { List File };
@@ -57,7 +61,8 @@ impl Model for Program {
     ghost view = { λ p. p.files.items };
 
     ghost invariant = { λ p.
-        IsLoadable p.files.items × (p.lines.items ≡ lines_of (classes_of p.files.items) (length p.files.items)) };
+        IsLoadable p.files.items × (p.lines.items ≡ lines_of (classes_of p.files.items) (length p.files.items))
+        × AreAbove (classes_of p.files.items) (length p.files.items) p.above.items };
 }
 
 impl Program {
@@ -85,6 +90,30 @@ impl Program {
         let line = &self.lines[at as usize];
         line.as_slice()
     }
+
+    /// Whether a class is another one or below it, through super classes and interfaces. All are below Object.
+    pub fn is_below(&self, class: ClassAt, up: ClassAt) -> bool
+        ensures { result ≡ is_below (classes_of self.now) class up }
+    {
+        match up {
+            ClassAt::Root => true,
+            ClassAt::Listed(up) => match class {
+                ClassAt::Root => false,
+                ClassAt::Listed(at) => self.is_above(at, up),
+            },
+        }
+    }
+
+    // Whether a class is another one or above it.
+    fn is_above(&self, at: u32, up: u32) -> bool
+        ensures { result ≡ is_below_in (length self.now) (classes_of self.now) up at }
+    {
+        if at as usize >= self.files.len() {
+            return at == up;
+        }
+        let above = &self.above[at as usize];
+        above.as_slice().contains(&up)
+    }
 }
 
 /// Copies the class files of a program: fewer than 2^32, each with fewer than 2^32 fields and fewer than 2^32 methods,
@@ -95,9 +124,11 @@ pub fn load(alloc: Global, files: &[ClassFile]) -> Result<Program, AllocError>
 {
     let copies = copy_files(alloc, files)?;
     let lines = all_lines(alloc, copies.as_slice())?;
+    let above = all_above(alloc, copies.as_slice())?;
     Ok(Program {
         files: copies,
         lines,
+        above,
     })
 }
 

@@ -1,5 +1,5 @@
 -- Whole runs of the machine.
-use Rattle.std.specs.Prelude.{◌≡◌, ℕ, zero, suc, ℤ, pos, negsuc, true, List, [], ◌∷◌, ◌++◌, Option, Some, None, option_and_then, unwrap_or, slice_get, codes}
+use Rattle.std.specs.Prelude.{◌≡◌, ◌<◌, ℕ, zero, suc, ℤ, pos, negsuc, true, List, [], ◌∷◌, ◌++◌, Option, Some, None, option_and_then, unwrap_or, slice_get, codes}
 use Rattle.std.specs.Io.KnownBytes.{append_known}
 use Rattle.jp_outside.specs.Bytes.{AppendsFront}
 use Rattle.jp_outside.specs.Faults.{Rose}
@@ -85,10 +85,26 @@ abbrev pub Tells : Option (List ℕ) → List ℕ → Type 0
 Tells None bytes = Unit {0}
 Tells (Some told) bytes = told ≡ bytes
 
--- a run of main passes a state, with the input that is left there and what was written before it
+-- goes on with a state's turn, if the run doesn't end there
+abbrev pub on_way : (State → List ℕ → List ℕ → Option (State × (List ℕ × List ℕ))) → List ℕ → List ℕ → Turn → Option (State × (List ℕ × List ℕ))
+on_way go input out (Goes state) = go state input out
+on_way go input out (Shows bytes state) = go state input (out ++ bytes)
+on_way go input out (Wants state) = go (with_read (first_of input) state) (rest_of input) out
+on_way go input out (Stops halt) = None
+
+-- the state behind n instructions, with the input that is left there and what was written so far; none where the run ends
+-- before
+unfoldable pub behind : List ClassFile → ℕ → State → List ℕ → List ℕ → Option (State × (List ℕ × List ℕ))
+behind files zero state input out = Some (state, (input, out))
+behind files (suc n) state input out = on_way (behind files n) input out (turn_of files state)
+
+-- a run of main comes to a state within the limit, with the input that is left there and what was written before it
 pub record Passes (files : List ClassFile) (main : List ℕ) (limit : ℕ) (input : List ℕ) (state : State) (rest out : List ℕ) : Type 0 where
-  pub more : ℕ
-  pub same : machine_run files main limit input ≡ exec files (suc more) state rest out
+  pub first : State
+  pub started : start files main ≡ Some first
+  pub count : ℕ
+  pub within : count < limit
+  pub comes : behind files count first input [] ≡ Some (state, (rest, out))
 
 -- a fault comes at a state that reads: what was written before it was added, and the rest of the input is left
 abbrev pub FaultsAtRead : List ClassFile → List ℕ → ℕ → List ℕ → Option (List ℕ) → Option (List ℕ) → Option (List ℕ) → Type 0

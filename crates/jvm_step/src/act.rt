@@ -55,8 +55,8 @@ pub(crate) fn require(condition: bool) -> Option<()>
     if condition { Some(()) } else { None }
 }
 
-// Whether a value is of a kind.
-pub(crate) fn has_kind(kind: Kind, value: Value) -> bool
+/// Whether a value is of a kind.
+pub fn has_kind(kind: Kind, value: Value) -> bool
     ensures { result ≡ is_kind kind value }
 {
     match kind {

@@ -8,7 +8,7 @@ use class_form::{ClassFile, Const, class_name, utf8};
 
 /// A member as a constant names it.
 #[derive(Clone, Copy)]
-pub(crate) struct MemberName<'a> {
+pub struct MemberName<'a> {
     pub class: &'a [u8],
     pub name: &'a [u8],
     pub descriptor: &'a [u8],
@@ -50,8 +50,8 @@ fn interface_method_indices(constant: &Const) -> Option<(u16, u16)>
     }
 }
 
-/// The field that a constant names.
-pub(crate) fn field_name(file: &ClassFile, index: u16) -> Option<MemberName<'_>>
+/// The field that a constant names, or `None` where it names none.
+pub fn field_name(file: &ClassFile, index: u16) -> Option<MemberName<'_>>
     ensures { option_map named result ≡ member_named field_in file.now index }
 {
     let (class, name_at) = field_indices(file.constants.get(index as usize)?)?;
@@ -66,8 +66,8 @@ pub(crate) fn field_name(file: &ClassFile, index: u16) -> Option<MemberName<'_>>
     })
 }
 
-/// The method of a class that a constant names.
-pub(crate) fn method_name(file: &ClassFile, index: u16) -> Option<MemberName<'_>>
+/// The method of a class that a constant names, or `None` where it names none.
+pub fn method_name(file: &ClassFile, index: u16) -> Option<MemberName<'_>>
     ensures { option_map named result ≡ member_named method_in file.now index }
 {
     let (class, name_at) = method_indices(file.constants.get(index as usize)?)?;
@@ -82,8 +82,8 @@ pub(crate) fn method_name(file: &ClassFile, index: u16) -> Option<MemberName<'_>
     })
 }
 
-/// The method of an interface that a constant names.
-pub(crate) fn interface_method_name(file: &ClassFile, index: u16) -> Option<MemberName<'_>>
+/// The method of an interface that a constant names, or `None` where it names none.
+pub fn interface_method_name(file: &ClassFile, index: u16) -> Option<MemberName<'_>>
     ensures { option_map named result ≡ member_named interface_method_in file.now index }
 {
     let (class, name_at) = interface_method_indices(file.constants.get(index as usize)?)?;
@@ -107,8 +107,8 @@ fn string_index(constant: &Const) -> Option<u16>
     }
 }
 
-/// The bytes of a string literal.
-pub(crate) fn literal(file: &ClassFile, index: u16) -> Option<&[u8]>
+/// The bytes of a string literal, or `None` where the index is that of none.
+pub fn literal(file: &ClassFile, index: u16) -> Option<&[u8]>
     ensures { option_map (λ text. text.now) result ≡ literal_at file.now index }
 {
     utf8(file, string_index(file.constants.get(index as usize)?)?)
@@ -140,7 +140,7 @@ pub(crate) fn names_read(member: &MemberName) -> bool
 }
 
 // Whether a name is that of the constructor of Object.
-pub(crate) fn names_object_init(member: &MemberName) -> bool
+pub fn names_object_init(member: &MemberName) -> bool
     ensures { result ≡ table.is_object_init (named member.now) }
 {
     member.class == b"java/lang/Object".as_slice()

@@ -5,8 +5,8 @@ ghost use Rattle.jvm_table.specs.Act.{popped, answered};
 use jp_store::Value;
 use jvm_table::Frame;
 
-/// Takes the value on top.
-pub(crate) fn pop(frame: &mut Frame) -> Option<Value>
+/// Takes the value on top, or answers `None` where there is none.
+pub fn pop(frame: &mut Frame) -> Option<Value>
     ensures { MatchOption result
         (popped frame.old.stack.values frame.old ≡ None)
         (λ v. popped frame.old.stack.values frame.old ≡ Some (v, frame.new)) }
@@ -14,8 +14,8 @@ pub(crate) fn pop(frame: &mut Frame) -> Option<Value>
     frame.stack.pop()
 }
 
-/// Whether there is room for a value more, which is then on top.
-pub(crate) fn hold(frame: &mut Frame, value: Value) -> Option<()>
+/// Puts a value on top, or answers `None` where there is no room for it.
+pub fn hold(frame: &mut Frame, value: Value) -> Option<()>
     ensures { MatchOption result
         (answered true value frame.old ≡ None)
         (λ _. answered true value frame.old ≡ Some frame.new) }

@@ -19,6 +19,7 @@ use crate::frames::pop;
 use crate::{Effect, Left};
 use class_form::{ClassFile, Const, MemberInfo, class_name, utf8};
 use jp_store::{Kind, TrapKind, Value};
+use jvm_load::result_of;
 use jvm_table::{ConstantUse, Frame, Instr, Row, fetch_row};
 
 fn same_kind(a: Kind, b: Kind) -> bool
@@ -38,6 +39,13 @@ fn same_kind(a: Kind, b: Kind) -> bool
             _ => false,
         },
     }
+}
+
+// What a method's own descriptor says of its result.
+fn wanted_result(file: &ClassFile, method: &MemberInfo) -> Option<Option<Kind>>
+    ensures { result ≡ result_kind file.now method.now }
+{
+    result_of(utf8(file, method.descriptor)?)
 }
 
 fn leave_with(wanted: Option<Option<Kind>>, kind: Kind, frame: &mut Frame) -> Option<Left>
@@ -225,14 +233,7 @@ fn on_constant(
 }
 
 // One instruction of a method of a file, the place already behind it.
-fn carry_out(
-    file: &ClassFile,
-    method: &MemberInfo,
-    wanted: Option<Option<Kind>>,
-    instr: Instr,
-    frame: &mut Frame,
-) -> Option<Left>
-    requires { wanted ≡ result_kind file.now method.now }
+fn carry_out(file: &ClassFile, method: &MemberInfo, instr: Instr, frame: &mut Frame) -> Option<Left>
     ensures { as_act file.now result frame.new ≡ table.act file.now method.now instr frame.old }
 {
     match instr {
@@ -258,28 +259,22 @@ fn carry_out(
         Instr::MultiplyLongs => multiply_longs(frame),
         Instr::CompareLongs => compare_longs(frame),
         Instr::JumpTo(condition, to) => jump(condition, to, frame),
-        Instr::ReturnValue(kind) => leave_with(wanted, kind, frame),
-        Instr::ReturnVoid => leave_void(wanted, frame),
+        Instr::ReturnValue(kind) => leave_with(wanted_result(file, method), kind, frame),
+        Instr::ReturnVoid => leave_void(wanted_result(file, method), frame),
         Instr::OnConstant(constant_use, index) => on_constant(file, constant_use, index, frame),
         Instr::InvokeInterface(index, count) => Some(Left::CallInterface(index, count)),
     }
 }
 
 /// Runs the instruction at the frame's place in a method of a file as far as the frame goes, and answers what is left
-/// to do; `None` where the table has no row for it. `wanted` is what the method's descriptor says of its result.
-pub fn one_instr(
-    file: &ClassFile,
-    method: &MemberInfo,
-    wanted: Option<Option<Kind>>,
-    frame: &mut Frame,
-) -> Option<Left>
-    requires short { HasShortCode method.now }
-    requires wanted { wanted ≡ result_kind file.now method.now }
+/// to do; `None` where the table has no row for it.
+pub fn one_instr(file: &ClassFile, method: &MemberInfo, frame: &mut Frame) -> Option<Left>
+    requires { HasShortCode method.now }
     ensures { as_act file.now result frame.new ≡ table.acts file.now method.now frame.old }
 {
     let row = fetch(method, frame)?;
     frame.place = row.next;
-    carry_out(file, method, wanted, row.instr, frame)
+    carry_out(file, method, row.instr, frame)
 }
 
 fn fetch(method: &MemberInfo, frame: &Frame) -> Option<Row>

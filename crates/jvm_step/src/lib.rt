@@ -9,7 +9,11 @@ mod instruct;
 mod state;
 mod value;
 
-pub use act::{Effect, Left};
+pub use act::{Effect, Left, has_kind};
+pub use constants::{
+    MemberName, field_name, interface_method_name, literal, method_name, names_object_init,
+};
+pub use frames::{hold, pop};
 pub use instruct::one_instr;
 pub use state::{Callers, Running, State, Statics};
 pub use value::{End, Halt};

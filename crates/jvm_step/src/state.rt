@@ -1,6 +1,8 @@
-ghost use Rattle.std.specs.Prelude.{◌≡◌, [], ◌∷◌, IfOk, MatchOption};
+ghost use Rattle.std.specs.Prelude.{◌≡◌, [], ◌∷◌, Some, None, IfOk, MatchOption, option_and_then, slice_get, slice_set};
+ghost use Rattle.std.specs.Option.{option_map};
+ghost use Rattle.std.specs.Bool.{OnTrue, OnFalse};
 
-use jp_store::{Heap, Values};
+use jp_store::{Heap, Value, Values};
 use jvm_table::Frame;
 use std::alloc::{AllocError, Global};
 use std::marker::Model;
@@ -77,6 +79,29 @@ impl Statics {
         ensures { result ≡ classes.items }
     {
         Statics { classes }
+    }
+
+    /// The value of a static field, if there is one at this position of a file's class.
+    pub fn get(&self, class: u32, slot: u32) -> Option<Value>
+        ensures { result ≡ option_and_then (λ values. slice_get values slot) (slice_get self.now class) }
+    {
+        let values = self.classes.get(class as usize)?;
+        values.get(slot as usize)
+    }
+
+    /// Whether there are static fields of a file's class, of which the one at this position, if there is one, then has
+    /// this value.
+    pub fn set(&mut self, class: u32, slot: u32, value: Value) -> bool
+        ensures set { OnTrue result (option_map (λ values. slice_set self.old class (slice_set values slot value)) (slice_get self.old class) ≡ Some self.new) }
+        ensures kept { OnFalse result (self.new ≡ self.old) }
+        ensures missing { OnFalse result (slice_get self.old class ≡ None) }
+    {
+        if class as usize >= self.classes.len() {
+            return false;
+        }
+        let values = &mut self.classes[class as usize];
+        values.set(slot as usize, value);
+        true
     }
 }
 

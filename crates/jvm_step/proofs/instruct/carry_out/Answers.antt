@@ -81,7 +81,7 @@ pub returns-in-JumpTo : goal.returns-in-JumpTo
 returns-in-JumpTo c = c.jump.ensures c.args.file.now c.args.method.now ∙ ap (λ i. table.act c.args.file.now c.args.method.now i c.args.frame.now) (sym c.in-JumpTo.is)
 
 pub returns-in-ReturnValue : goal.returns-in-ReturnValue
-returns-in-ReturnValue c = c.leave_with.ensures c.args.file.now ∙ ap (λ k. table.on_pop c.args.frame.now (λ v g. table.leaves_with k c.in-ReturnValue.kind v)) c.requires ∙ ap (λ i. table.act c.args.file.now c.args.method.now i c.args.frame.now) (sym c.in-ReturnValue.is)
+returns-in-ReturnValue c = c.leave_with.ensures c.args.file.now ∙ ap (λ k. table.on_pop c.args.frame.now (λ v g. table.leaves_with k c.in-ReturnValue.kind v)) c.wanted_result.ensures ∙ ap (λ i. table.act c.args.file.now c.args.method.now i c.args.frame.now) (sym c.in-ReturnValue.is)
 
 pub returns-in-ReturnVoid : goal.returns-in-ReturnVoid
-returns-in-ReturnVoid c = c.leave_void.ensures c.args.file.now ∙ ap (λ k. table.leaves_void k) c.requires ∙ ap (λ i. table.act c.args.file.now c.args.method.now i c.args.frame.now) (sym c.in-ReturnVoid.is)
+returns-in-ReturnVoid c = c.leave_void.ensures c.args.file.now ∙ ap (λ k. table.leaves_void k) c.wanted_result-in-ReturnVoid.ensures ∙ ap (λ i. table.act c.args.file.now c.args.method.now i c.args.frame.now) (sym c.in-ReturnVoid.is)
