@@ -1,0 +1,3 @@
+mod Chains
+mod Holding
+pub mod Parts

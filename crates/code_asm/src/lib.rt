@@ -1,0 +1,10 @@
+//! The constants of a class file, each held once, and code with labels in place of distances (JVM specification,
+//! second edition, 4.4 and chapter 6).
+#![tactic(auto)]
+
+mod entry;
+mod fault;
+mod pool;
+
+pub use fault::AsmFault;
+pub use pool::Pool;

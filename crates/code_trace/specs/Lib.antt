@@ -1,0 +1,6 @@
+pub mod Entry
+pub mod Calls
+pub mod CodeTrace
+pub mod OpenTraces
+pub mod Follows
+pub mod Laws

@@ -1,0 +1,13 @@
+pub mod Values
+pub mod Blocks
+pub mod Conditions
+pub mod Calls
+pub mod Specials
+pub mod Expressions
+pub mod Statements
+pub mod Deep
+pub mod Entry
+pub mod Starts
+pub mod Members
+pub mod Signatures
+pub mod Examples

@@ -1,0 +1,49 @@
+-- The code of a member has the member's open traces.
+use Rattle.std.specs.Prelude.{◌≡◌, ℕ, ◌+◌, ◌≤◌, length, Option, Some, None, slice_get}
+use Rattle.std.specs.Option.{option_map_or}
+use Rattle.class_form.specs.declared.class_file.ClassFile.{ClassFile}
+use Rattle.class_form.specs.declared.member.MemberInfo.{MemberInfo}
+use Rattle.class_form.specs.declared.member.Code.{Code}
+use Rattle.class_form.specs.Constants.{class_name_at}
+use Rattle.jp_pred.specs.declared.hier.Hier.{Hier}
+use Rattle.iface_codec.specs.declared.iface.Iface.{Iface}
+use Rattle.jp_store.specs.declared.value.Kind.{Kind}
+use Rattle.jp_meaning.specs.declared.unit.TypedMember.{TypedMember}
+use Rattle.jp_meaning.specs.declared.unit.TypedPart.{TypedPart}
+use Rattle.jp_meaning.specs.declared.unit.TypedPart.TheVariants as part
+use Rattle.jp_meaning.specs.Descriptors.{internal_name, kind_of_type}
+use Rattle.jvm_table.specs.Act.{result_kind}
+use Rattle.code_trace.specs.OpenTraces.{HasOpenTraces}
+use Rattle.code_asm.specs.Items.{Stands}
+use Rattle.gen_body.specs.Members.{given_to, member_code}
+
+-- what kind of value a member returns
+abbrev pub result_of : Iface → TypedPart → Option Kind
+result_of head (part.Field at) = None
+result_of head (part.Method at) = option_map_or (λ method. kind_of_type method.result) (slice_get head.methods at) None
+result_of head (part.Constructor at) = None
+
+-- how many locals a member starts with: what it is given, and its aliases
+abbrev pub slots_of : Iface → TypedPart → ℕ
+slots_of head (part.Field at) = 0
+slots_of head (part.Method at) = option_map_or (λ method. given_to method + length method.aliases) (slice_get head.methods at) 0
+slots_of head (part.Constructor at) = option_map_or (λ params. 1 + length params) (slice_get head.constructors at) 0
+
+-- the items of a member stand in a method of its class's file, which has places enough for them
+pub record IsCodeOf (hier : Hier) (head : Iface) (m : TypedMember) (file : ClassFile) (method : MemberInfo) : Type 0 where
+  pub code : Code
+  pub has : method.code ≡ Some code
+  pub this : class_name_at file file.this_class ≡ Some (internal_name head.name)
+  pub result : result_kind file method ≡ Some (result_of head m.part)
+  pub place : ℕ → ℕ
+  pub to : ℕ
+  pub stands : Stands file code.bytes place 0 (member_code hier head m).items to
+  pub room : (member_code hier head m).need ≤ code.max_stack
+  pub locals : code.max_locals ≡ m.locals
+  pub slots : slots_of head m.part ≤ m.locals
+
+-- at most as many instructions for each turn of a loop, and at first, as there are items
+abbrev pub CompiledHasOpenTraces : Type 0
+CompiledHasOpenTraces =
+    (hier : Hier) (head : Iface) (m : TypedMember) (file : ClassFile) (method : MemberInfo) (more : ℕ) → IsCodeOf hier head m file method →
+    length (member_code hier head m).items ≤ more → HasOpenTraces hier head m file method more
