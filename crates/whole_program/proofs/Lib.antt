@@ -1,0 +1,10 @@
+pub mod Deep
+pub mod Keeps
+pub mod Acts
+pub mod Script
+pub mod Obeys
+pub mod Entered
+pub mod Linked
+pub mod Passing
+pub mod Ahead
+pub mod Found
