@@ -6,6 +6,7 @@ pub mod Statements
 pub mod Programs
 pub mod CodeSteps
 pub mod Prints
+pub mod Runs
 pub mod Fronts
 pub mod Loads
 pub mod Formed

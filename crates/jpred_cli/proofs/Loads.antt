@@ -1,7 +1,7 @@
 -- The class of a program of prints can be loaded.
 use Rattle.std.proofs.Common.{◌≡◌, ℕ, ◌+◌, ◌*◌, ◌^◌, ◌<◌, ◌≤◌, ℤ, List, [], ◌∷◌, length, arith}
 use Rattle.std.proofs.lemmas.List.Elements.{All-cons, All-nil}
-use Rattle.mini_jvm.specs.Loadable.{HasShortCode, IsLoadableFile, IsLoadable}
+use Rattle.jvm_load.specs.Loadable.{HasShortCode, IsLoadableFile, IsLoadable}
 use Rattle.jpred_cli.specs.Built.{code_from, main_method, class_of}
 
 pub code_length : (index : ℕ) (numbers : List ℤ) → length (code_from index numbers) ≡ 5 * length numbers + 1

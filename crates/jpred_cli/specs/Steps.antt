@@ -7,8 +7,8 @@ use Rattle.jp_outside.specs.Faults.{Rose}
 use Rattle.jp_outside.specs.Bytes.{AppendsFront}
 use Rattle.jp_outside.specs.Files.{Files, Finds, put_known, OthersStay}
 use Rattle.class_form.specs.declared.class_file.ClassFile.{ClassFile}
-use Rattle.mini_jvm.specs.declared.value.End.TheVariants.{Done as EndDone}
-use Rattle.mini_jvm.specs.Run.{Finish}
+use Rattle.jvm_step.specs.declared.value.End.{End}
+use Rattle.jvm_step.specs.declared.value.End.TheVariants.{Done as EndDone, Trap, Cut, ReadFault, WriteFault, BadCode}
 use Rattle.jpred_cli.specs.declared.ending.Ending.{Ending}
 use Rattle.jpred_cli.specs.declared.ending.Ending.TheVariants.{Done, NoCommand, NotYet, Missing, UnitFault, ClassFault, OutputFault, OutOfMemory}
 use Rattle.jpred_cli.specs.Built.{class_of}
@@ -57,6 +57,15 @@ ClassRan numbers out out' faults faults' Missing = ⊥
 ClassRan numbers out out' faults faults' UnitFault = ⊥
 ClassRan numbers out out' faults faults' ClassFault = ⊥
 
--- the run of the class: it ends, and writes each number in decimal
-abbrev pub printed : List ℤ → Finish
-printed numbers = record { end = EndDone; out = flat_map signed_decimal numbers }
+-- what a program of prints writes: each number in decimal
+abbrev pub printed : List ℤ → List ℕ
+printed numbers = flat_map signed_decimal numbers
+
+-- how the run of the class ends: all is written, or the output fails
+abbrev pub Printed : List ℤ → End → Option (List ℕ) → Option (List ℕ) → Type 0
+Printed numbers EndDone before now = now ≡ append_known before (printed numbers)
+Printed numbers WriteFault before now = AppendsFront before now (printed numbers)
+Printed numbers ReadFault before now = ⊥
+Printed numbers Cut before now = ⊥
+Printed numbers (Trap kind) before now = ⊥
+Printed numbers (BadCode class method pc) before now = ⊥

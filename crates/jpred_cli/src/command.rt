@@ -1,11 +1,11 @@
 ghost use Rattle.std.specs.Prelude.{◌≡◌, ◌≤◌, length, IfOk, MatchResult, string_bytes};
 ghost use Rattle.jp_outside.specs.Bytes.{AppendsFront};
-ghost use Rattle.mini_jvm.specs.Run.{Finished, FaultOf};
+ghost use Rattle.jvm_step.specs.Run.{WriteCause};
 ghost use Rattle.jpred_cli.specs.Built.{class_of};
 ghost use Rattle.jpred_cli.specs.Words.{IsName};
 ghost use Rattle.jpred_cli.specs.Lines.{class_file_name};
 ghost use Rattle.jpred_cli.specs.Outcome.{Did, outside};
-ghost use Rattle.jpred_cli.specs.Steps.{UnitRead, ClassPut, ClassRan, printed};
+ghost use Rattle.jpred_cli.specs.Steps.{UnitRead, ClassPut, ClassRan, Printed, printed};
 
 use crate::Ending;
 use crate::class_builder::class_with_prints;
@@ -14,7 +14,9 @@ use class_form::ClassFile;
 use class_writer::write_class;
 use jp_outside::{Sink, Source, Store, StoreErr};
 use jp_pred::Name;
-use mini_jvm::{End, load, run};
+use jvm_load::load;
+use jvm_step::End;
+use mini_jvm::run;
 use std::alloc::{AllocError, Global};
 
 /// How many instructions a run may take.
@@ -132,9 +134,9 @@ fn run_prints<I: Source, O: Sink>(
 ) -> Result<End, AllocError>
     requires class { file ≡ class_of main.now numbers.now }
     requires few { length numbers.now ≤ 200 }
-    ensures ran { IfOk result (λ end. Finished (printed numbers.now) end (O.taken out.old) (O.taken out.new)) }
-    ensures front { AppendsFront (O.taken out.old) (O.taken out.new) (printed numbers.now).out }
-    ensures fault { MatchResult result (λ end. FaultOf end (O.faults out.old) (O.faults out.new)) (λ _. O.faults out.new ≡ O.faults out.old) }
+    ensures ran { IfOk result (λ end. Printed numbers.now end (O.taken out.old) (O.taken out.new)) }
+    ensures front { AppendsFront (O.taken out.old) (O.taken out.new) (printed numbers.now) }
+    ensures fault { MatchResult result (λ end. WriteCause end (O.faults out.old) (O.faults out.new)) (λ _. O.faults out.new ≡ O.faults out.old) }
     ensures input { I.left input.new ≡ I.left input.old }
     ensures input_faults { I.faults input.new ≡ I.faults input.old }
 {

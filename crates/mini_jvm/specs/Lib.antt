@@ -1,7 +1,3 @@
-pub mod Stack
-pub mod Decode
-pub mod Act
-pub mod Names
-pub mod Loadable
-pub mod Turn
-pub mod Run
+pub mod Steps
+pub mod Reading
+pub mod Memory

@@ -1,23 +1,27 @@
-ghost use Rattle.std.specs.Prelude.{◌≡◌, ◌≤◌, [], IfOk, OnOk, MatchResult};
+ghost use Rattle.std.specs.Prelude.{◌≡◌, ◌≤◌, ℕ, List, Some, Bool, is_some, IfOk, OnOk, OnErr, MatchResult};
 ghost use Rattle.std.specs.Fmt.{signed_decimal};
 ghost use Rattle.std.specs.Io.KnownBytes.{append_known};
 ghost use Rattle.jp_outside.specs.Bytes.{AppendsFront};
 ghost use Rattle.jp_outside.specs.Faults.{HasCause};
-ghost use Rattle.mini_jvm.specs.Run.{class_in, method_in, end_of, exec, machine_run, Finished, FaultOf};
+ghost use Rattle.jvm_step.specs.Run.{class_in, method_in, end_of, start, Tells, Ran, Stopped, ReadCause, WriteCause};
+ghost use Rattle.mini_jvm.specs.Memory.{StoppedAt};
+ghost use Rattle.mini_jvm.specs.Reading.{ReadsNumber};
 
-use crate::entry::start_main;
-use crate::thread::{Step, one_step};
-use crate::{End, Halt, Program, Thread};
-use class_form::{Bytes, class_name, utf8};
+use crate::start::start_main;
+use crate::step::{Step, one_step};
+use class_form::Bytes;
 use itoa::Buffer;
 use jp_outside::{Failed, Sink, Source, write_all};
 use jp_pred::Name;
+use jp_store::Value;
+use jvm_load::{Program, name_of, text};
+use jvm_step::{End, Halt, State};
 use std::alloc::{AllocError, Global};
 
 /// Runs the `main` of a class for at most `limit` instructions, and answers how the run ended.
 ///
-/// A fault of the output ends it as `WriteFault`; `input` is there for opcodes that read. The error is want of memory,
-/// which comes before the first instruction, or where the names of a `BadCode` find no place.
+/// A fault of the input or of the output ends it as `ReadFault` or `WriteFault`, after which nothing is read or written.
+/// The error is want of memory. Where the source doesn't tell its bytes, the answer is the run's on some input.
 pub fn run<I: Source, O: Sink>(
     alloc: Global,
     program: &Program,
@@ -28,22 +32,29 @@ pub fn run<I: Source, O: Sink>(
 ) -> Result<End, AllocError>
     requires { 1 ≤ limit }
 
-    // The end is the machine's, and all is written that the machine writes.
-    ensures ran { IfOk result (λ end.
-        Finished (machine_run program.now main.now limit) end (O.taken out.old) (O.taken out.new)) }
+    // The end is the machine's on the bytes that the source tells, or a fault comes on the way.
+    ensures ran { IfOk result (λ end. (bytes : List ℕ) × Tells (I.left input.old) bytes
+        × Ran program.now main.now limit bytes end (I.left input.new) (O.taken out.old) (O.taken out.new)) }
 
-    // At every answer, a fault of the output and want of memory too.
-    ensures front { AppendsFront (O.taken out.old) (O.taken out.new) (machine_run program.now main.now limit).out }
-    ensures fault { MatchResult result
-        (λ end. FaultOf end (O.faults out.old) (O.faults out.new))
+    // At every answer, want of memory too, what was written is a front part of what the machine writes.
+    ensures stopped { (bytes : List ℕ) × Tells (I.left input.old) bytes
+        × Stopped program.now main.now limit bytes (O.taken out.old) (O.taken out.new) }
+
+    // Want of memory comes at a state of the run, or before the first.
+    ensures wanting { OnErr result ((bytes : List ℕ) × Tells (I.left input.old) bytes
+        × StoppedAt program.now main.now limit bytes (I.left input.new) (O.taken out.old) (O.taken out.new)) }
+
+    // A source neither begins nor stops to tell.
+    ensures tells { is_some (I.left input.new) ≡ is_some (I.left input.old) }
+    ensures read_cause { MatchResult result
+        (λ end. ReadCause end (I.faults input.old) (I.faults input.new))
+        (λ _. I.faults input.new ≡ I.faults input.old) }
+    ensures write_cause { MatchResult result
+        (λ end. WriteCause end (O.faults out.old) (O.faults out.new))
         (λ _. O.faults out.new ≡ O.faults out.old) }
-
-    // No opcode reads yet.
-    ensures input { I.left input.new ≡ I.left input.old }
-    ensures input_faults { I.faults input.new ≡ I.faults input.old }
 {
     match start_main(alloc, program, main.bytes())? {
-        Some(thread) => execute(alloc, program, thread, limit, out),
+        Some(state) => execute(alloc, program, state, limit, input, out),
         None => Ok(End::BadCode {
             class: Bytes::from_bytes(alloc, main.bytes())?,
             method: Bytes::from_bytes(alloc, b"main")?,
@@ -52,28 +63,49 @@ pub fn run<I: Source, O: Sink>(
     }
 }
 
-fn execute<O: Sink>(
+// The run from a state on.
+fn execute<I: Source, O: Sink>(
     alloc: Global,
     program: &Program,
-    mut thread: Thread,
+    mut state: State,
     limit: u64,
+    input: &mut I,
     out: &mut O,
 ) -> Result<End, AllocError>
-    ensures ran { IfOk result (λ end.
-        Finished (exec program.now limit thread []) end (O.taken out.old) (O.taken out.new)) }
-    ensures front { AppendsFront (O.taken out.old) (O.taken out.new) (exec program.now limit thread []).out }
-    ensures fault { MatchResult result
-        (λ end. FaultOf end (O.faults out.old) (O.faults out.new))
+    ensures ran { (main : List ℕ) → start program.now main ≡ Some state → IfOk result (λ end. (bytes : List ℕ) × Tells (I.left input.old) bytes
+        × Ran program.now main limit bytes end (I.left input.new) (O.taken out.old) (O.taken out.new)) }
+    ensures stopped { (main : List ℕ) → start program.now main ≡ Some state → (bytes : List ℕ) × Tells (I.left input.old) bytes
+        × Stopped program.now main limit bytes (O.taken out.old) (O.taken out.new) }
+    ensures wanting { (main : List ℕ) → start program.now main ≡ Some state → OnErr result ((bytes : List ℕ) × Tells (I.left input.old) bytes
+        × StoppedAt program.now main limit bytes (I.left input.new) (O.taken out.old) (O.taken out.new)) }
+    ensures tells { is_some (I.left input.new) ≡ is_some (I.left input.old) }
+    ensures read_cause { MatchResult result
+        (λ end. ReadCause end (I.faults input.old) (I.faults input.new))
+        (λ _. I.faults input.new ≡ I.faults input.old) }
+    ensures write_cause { MatchResult result
+        (λ end. WriteCause end (O.faults out.old) (O.faults out.new))
         (λ _. O.faults out.new ≡ O.faults out.old) }
 {
+    let mut ended = false;
     for _i in 0..limit {
-        match one_step(program, &mut thread) {
+        match one_step(alloc, program, &mut state)? {
             Step::Move => {}
-            Step::Output(n) => {
+            Step::PrintInt(n) => {
                 if print(out, n).is_err() {
                     return Ok(End::WriteFault);
                 }
             }
+            Step::PrintText(bytes) => {
+                if write_all(out, bytes).is_err() {
+                    return Ok(End::WriteFault);
+                }
+            }
+            Step::Read => match read_number(input, &mut ended) {
+                Ok(n) => {
+                    state.current.frame.stack.push(Value::Int(n));
+                }
+                Err(_) => return Ok(End::ReadFault),
+            },
             Step::Stop(halt) => return halted(alloc, program, halt),
         }
     }
@@ -90,42 +122,62 @@ fn print<O: Sink>(out: &mut O, n: i32) -> Result<(), Failed>
     write_all(out, digits.format(n).as_bytes())
 }
 
+// Reads a byte, or -1 at the end, behind which nothing is read.
+fn read_number<I: Source>(input: &mut I, ended: &mut bool) -> Result<i32, Failed>
+    ensures read { IfOk result (λ n. ReadsNumber ended.old (I.left input.old) n ended.new (I.left input.new)) }
+    ensures kept { OnErr result (I.left input.new ≡ I.left input.old) }
+    ensures cause { HasCause (I.faults input.old) (I.faults input.new) result }
+{
+    if *ended {
+        return Ok(-1);
+    }
+    match input.read()? {
+        Some(byte) => Ok(i32::from(byte)),
+        None => {
+            *ended = true;
+            Ok(-1)
+        }
+    }
+}
+
+// How a run ends where the machine stops by itself.
 fn halted(alloc: Global, program: &Program, halt: Halt) -> Result<End, AllocError>
     ensures { IfOk result (λ end. end ≡ end_of program.now halt) }
 {
     match halt {
         Halt::Done => Ok(End::Done),
+        Halt::Trapped(kind) => Ok(End::Trap(kind)),
         Halt::NoRow {
             file,
             method,
             place,
         } => Ok(End::BadCode {
-            class: Bytes::from_bytes(alloc, name_of_class(program, file))?,
-            method: Bytes::from_bytes(alloc, name_of_method(program, file, method))?,
+            class: Bytes::from_bytes(alloc, class_name_at(program, file))?,
+            method: Bytes::from_bytes(alloc, method_name_at(program, file, method))?,
             pc: place,
         }),
     }
 }
 
 // The name of a file's class, or no bytes where it has none.
-fn name_of_class(program: &Program, file: u32) -> &[u8]
+fn class_name_at(program: &Program, file: u32) -> &[u8]
     ensures { result.now ≡ class_in program.now file }
 {
-    let Some(file) = program.file(file) else {
-        return &[];
-    };
-    class_name(file, file.this_class).unwrap_or(&[])
+    match program.file(file) {
+        Some(file) => name_of(file),
+        None => &[],
+    }
 }
 
 // The name of a file's method, or no bytes where it has none.
-fn name_of_method(program: &Program, file: u32, method: u32) -> &[u8]
+fn method_name_at(program: &Program, file: u32, method: u32) -> &[u8]
     ensures { result.now ≡ method_in program.now file method }
 {
     let Some(file) = program.file(file) else {
         return &[];
     };
     match file.methods.get(method as usize) {
-        Some(method) => utf8(file, method.name).unwrap_or(&[]),
+        Some(method) => text(file, method.name),
         None => &[],
     }
 }

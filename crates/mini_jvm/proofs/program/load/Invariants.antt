@@ -1,6 +1,0 @@
-use Rattle.std.proofs.Common.{◌≡◌, take}
-use Rattle.mini_jvm.proofs.program.load.Given as goal
-
--- the copies so far
-abbrev pub invariant-loop-file : goal.invariant-loop-file
-invariant-loop-file l = l.copies.items ≡ take l.file-index l.files
