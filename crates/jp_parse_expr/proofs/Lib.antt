@@ -1,0 +1,12 @@
+pub mod Calls
+pub mod Casts
+pub mod Created
+pub mod Literals
+pub mod NameAlone
+pub mod Narrow
+pub mod Operands
+pub mod Positions
+pub mod Rules
+pub mod Runs
+pub mod Signs
+pub mod Wholes
