@@ -1,6 +1,7 @@
 pub mod Calls
 pub mod Casts
 pub mod Created
+pub mod Endings
 pub mod Literals
 pub mod NameAlone
 pub mod Narrow

@@ -1,3 +1,8 @@
+ghost use Rattle.std.specs.Prelude.{◌≡◌, IfOk};
+ghost use Rattle.jp_grammar.specs.declared.kind.Kind.TheVariants as k;
+ghost use Rattle.jp_grammar.specs.Kinds.{kind_of_lexeme};
+ghost use Rattle.jp_grammar.specs.Reading.{IsText};
+
 use super::*;
 use jp_ast::{Expr, ExprKind, Lexeme, Place, Token, sign};
 use jp_grammar::ParseFault;
@@ -33,7 +38,9 @@ const SIGNS: [(u8, u8); 21] = [
 ];
 
 /// What one byte stands for: a sign, a digit's number, a reserved word by its capital letter, or a name.
-fn lexeme(alloc: Global, byte: u8) -> Result<Lexeme, AllocError> {
+fn lexeme(alloc: Global, byte: u8) -> Result<Lexeme, AllocError>
+    ensures { IfOk result (λ lexeme. kind_of_lexeme lexeme ≡ k.End → ⊥) }
+{
     for (written, sign) in SIGNS {
         if written == byte {
             return Ok(Lexeme::Sign(sign));
@@ -45,7 +52,7 @@ fn lexeme(alloc: Global, byte: u8) -> Result<Lexeme, AllocError> {
             hex: false,
         });
     }
-    let word = match byte {
+    let reserved = match byte {
         b'T' => "true",
         b'N' => "null",
         b'H' => "this",
@@ -54,13 +61,23 @@ fn lexeme(alloc: Global, byte: u8) -> Result<Lexeme, AllocError> {
         b'I' => "int",
         b'O' => "instanceof",
         b'X' => "switch",
-        _ => return Ok(Lexeme::Word(Name::from_bytes(alloc, &[byte])?)),
+        _ => return word(alloc, &[byte]),
     };
-    Ok(Lexeme::Word(Name::from_bytes(alloc, word.as_bytes())?))
+    word(alloc, reserved.as_bytes())
+}
+
+/// A word.
+#[tactic(auto, using(crate::proofs::Endings::word_no_end))]
+fn word(alloc: Global, bytes: &[u8]) -> Result<Lexeme, AllocError>
+    ensures { IfOk result (λ lexeme. kind_of_lexeme lexeme ≡ k.End → ⊥) }
+{
+    Ok(Lexeme::Word(Name::from_bytes(alloc, bytes)?))
 }
 
 /// The tokens of the bytes, one of each, and the end behind them. The column is the position from 1.
-fn tokens(alloc: Global, text: &str) -> Result<Items<Token>, AllocError> {
+fn tokens(alloc: Global, text: &str) -> Result<Items<Token>, AllocError>
+    ensures { IfOk result (λ tokens. IsText tokens) }
+{
     let mut tokens = Items::new(alloc);
     let mut col = 1u32;
     for byte in text.as_bytes() {
