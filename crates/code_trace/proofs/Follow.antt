@@ -1,6 +1,6 @@
 -- How what code does is put together.
 use Rattle.std.proofs.Common.{◌≡◌, ℕ, zero, suc, ◌+◌, ◌-◌, ◌≤◌, List, Option, Some, None, refl, sym, ap, subst, arith}
-use Rattle.std.specs.Prelude.{ℤ, Bool, false}
+use Rattle.std.specs.Prelude.{ℤ, Bool}
 use Rattle.jp_store.specs.declared.value.Value.{Value}
 use Rattle.jp_store.specs.declared.value.TrapKind.{TrapKind}
 use Rattle.jp_store.specs.declared.outcome.Outcome.{Outcome}
@@ -10,10 +10,9 @@ use Rattle.jp_does.specs.Does.{Gives, Traps, Ticks, Prints, Shows, Reads, Works,
 use Rattle.jp_meaning.specs.Does.{Call, Does}
 use Rattle.jvm_table.specs.declared.frame.Frame.{Frame}
 use Rattle.jvm_table.specs.Act.{Act, Moves, ShowsInt, ShowsText, Asks, Effects, Invokes, Fails, answered, acted}
-use Rattle.code_trace.specs.Entry.{is_on_null}
 use Rattle.code_trace.specs.Calls.{call_in}
 use Rattle.code_trace.specs.CodeTrace.{with_read}
-use Rattle.code_trace.specs.Follows.{Steps, Comes, Onward, IsTrap, Follows}
+use Rattle.code_trace.specs.Follows.{Steps, Comes, Onward, MayAnswer, Follows}
 
 -- an evaluation that is stuck where the other is, and goes on where the other does
 pub onward : {A B : Type 0} (o : Option Frame) (d : Does A) (e : Does B) (go next : Frame → Type 0) → (d ≡ Stuck → e ≡ Stuck) → ((g : Frame) → go g → next g) → Onward o d go → Onward o e next
@@ -53,7 +52,7 @@ module _ (run : Frame → Act) where
     first Q b c f mid (Shows n d) l r = (r.0, r.1, r.2, comes_on b c (suc r.0) f mid r.1 l r.3, r.4, r.5)
     first Q b c f mid (Reads d) l r = (r.0, r.1, r.2, comes_on b c (suc r.0) f mid r.1 l r.3, r.4, r.5)
     first Q b c f mid (Works op d) l r = (r.0, r.1, r.2, r.3, comes_on b c (suc r.0) f mid r.1 l r.4, r.5, r.6)
-    first Q b c f mid (Calls g d) l r = (r.0, r.1, r.2, r.3, comes_on b c (suc r.0) f mid r.1 l r.4, r.5, r.6, r.7)
+    first Q b c f mid (Calls g d) l r = (r.0, r.1, r.2, r.3, comes_on b c (suc r.0) f mid r.1 l r.4, r.5, r.6)
     first Q b c f mid Limit l r = tt
     first Q b c f mid Stuck l r = tt
 
@@ -72,8 +71,8 @@ module _ (run : Frame → Act) where
       r.3,
       r.4,
       r.5,
-      λ v. onward (answered r.3 v r.2) (d v) (then_do (d v) go) (λ g. Follows run current more Q r.0 g (d v)) _
-          (λ e. ap (λ x. then_do x go) e) (λ g k. seq Q R go h (d v) r.0 g k) (r.6 v),
+      λ v may. onward (answered r.3 v r.2) (d v) (then_do (d v) go) (λ g. Follows run current more Q r.0 g (d v)) _
+          (λ e. ap (λ x. then_do x go) e) (λ g k. seq Q R go h (d v) r.0 g k) (r.6 v may),
     )
     seq Q R go h (Calls c d) b f r = (
       r.0,
@@ -82,9 +81,8 @@ module _ (run : Frame → Act) where
       r.3,
       r.4,
       r.5,
-      r.6,
       λ v. onward (answered r.3 v r.2) (d v) (then_do (d v) go) (λ g. Follows run current more Q r.0 g (d v)) _
-          (λ e. ap (λ x. then_do x go) e) (λ g k. seq Q R go h (d v) r.0 g k) (r.7 v),
+          (λ e. ap (λ x. then_do x go) e) (λ g k. seq Q R go h (d v) r.0 g k) (r.6 v),
     )
     seq Q R go h Limit b f r = tt
     seq Q R go h Stuck b f r = tt
@@ -100,11 +98,11 @@ module _ (run : Frame → Act) where
         first Q b (b - 1) f to d (subst (λ k. Comes run k f (b - 1) to) n (one (b - 1) f to e)) r
 
     -- one that does something to the store, or calls
-    pub works_on : {A : Type 0} (Q : A → ℕ → Frame → Type 0) (b : ℕ) (f on : Frame) (op : Op) (push : Bool) (d : Value → Does A) → 1 ≤ b → run f ≡ Effects op push on → ((v : Value) → Onward (answered push v on) (d v) (λ g. Follows run current more Q (b - 1) g (d v))) → Follows run current more Q b f (Works op d)
+    pub works_on : {A : Type 0} (Q : A → ℕ → Frame → Type 0) (b : ℕ) (f on : Frame) (op : Op) (push : Bool) (d : Value → Does A) → 1 ≤ b → run f ≡ Effects op push on → ((v : Value) → MayAnswer op v → Onward (answered push v on) (d v) (λ g. Follows run current more Q (b - 1) g (d v))) → Follows run current more Q b f (Works op d)
     works_on Q b f on op push d le e r = (b - 1, f, on, push, record { count = zero; steps = refl; paid = omega arith }, e, r)
 
-    pub calls_on : {A : Type 0} (Q : A → ℕ → Frame → Type 0) (b : ℕ) (f on : Frame) (c : Call) (push : Bool) (d : Value → Does A) → 1 ≤ b → run f ≡ Invokes (call_in current c) push on → is_on_null (call_in current c).target c.args ≡ false → ((v : Value) → Onward (answered push v on) (d v) (λ g. Follows run current more Q (b - 1) g (d v))) → Follows run current more Q b f (Calls c d)
-    calls_on Q b f on c push d le e z r = (b - 1, f, on, push, record { count = zero; steps = refl; paid = omega arith }, e, z, r)
+    pub calls_on : {A : Type 0} (Q : A → ℕ → Frame → Type 0) (b : ℕ) (f on : Frame) (c : Call) (push : Bool) (d : Value → Does A) → 1 ≤ b → run f ≡ Invokes (call_in current c) push on → ((v : Value) → Onward (answered push v on) (d v) (λ g. Follows run current more Q (b - 1) g (d v))) → Follows run current more Q b f (Calls c d)
+    calls_on Q b f on c push d le e r = (b - 1, f, on, push, record { count = zero; steps = refl; paid = omega arith }, e, r)
 
     -- one that prints or reads
     pub shows_on : {A : Type 0} (Q : A → ℕ → Frame → Type 0) (b : ℕ) (f on : Frame) (n : ℤ) (d : Does A) → 1 ≤ b → run f ≡ ShowsInt n on → Follows run current more Q (b - 1) on d → Follows run current more Q b f (Prints n d)
@@ -124,7 +122,7 @@ module _ (run : Frame → Act) where
 
     -- a trap
     pub fails : {A : Type 0} (Q : A → ℕ → Frame → Type 0) (b : ℕ) (f : Frame) (kind : TrapKind) → 1 ≤ b → run f ≡ Fails kind → Follows run current more Q b f (Traps kind)
-    fails Q b f kind le e = (b - 1, f, record { count = zero; steps = refl; paid = omega arith }, subst (IsTrap kind) (sym e) refl)
+    fails Q b f kind le e = (b - 1, f, record { count = zero; steps = refl; paid = omega arith }, e)
 
     -- an operation that traps or is stuck, or goes on
     pub on_outcome : {A B : Type 0} (P : A → Type 0) (Q : B → ℕ → Frame → Type 0) (b : ℕ) (f : Frame) (r : Outcome A) (act_go : A → Act) (go : A → Does B) → 1 ≤ b → run f ≡ acted r act_go → Gives_as P r → ((a : A) → P a → run f ≡ act_go a → Follows run current more Q b f (go a)) → Follows run current more Q b f (do_of r go)
@@ -147,8 +145,8 @@ module _ (run : Frame → Act) where
       r.3,
       r.4,
       r.5,
-      λ v. onward (answered r.3 v r.2) (d v) (d v) (λ g. Follows run current more Q r.0 g (d v)) _
-          (λ e. e) (λ g k. ending Q R h (d v) r.0 g k) (r.6 v),
+      λ v may. onward (answered r.3 v r.2) (d v) (d v) (λ g. Follows run current more Q r.0 g (d v)) _
+          (λ e. e) (λ g k. ending Q R h (d v) r.0 g k) (r.6 v may),
     )
     ending Q R h (Calls c d) b f r = (
       r.0,
@@ -157,9 +155,8 @@ module _ (run : Frame → Act) where
       r.3,
       r.4,
       r.5,
-      r.6,
       λ v. onward (answered r.3 v r.2) (d v) (d v) (λ g. Follows run current more Q r.0 g (d v)) _
-          (λ e. e) (λ g k. ending Q R h (d v) r.0 g k) (r.7 v),
+          (λ e. e) (λ g k. ending Q R h (d v) r.0 g k) (r.6 v),
     )
     ending Q R h Limit b f r = tt
     ending Q R h Stuck b f r = tt

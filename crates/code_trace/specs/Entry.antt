@@ -1,12 +1,11 @@
 -- How a method's code begins.
-use Rattle.std.specs.Prelude.{ℕ, ◌-◌, Bool, true, false, List, [], ◌∷◌, ◌++◌, length, replicate, Option, Some, None, option_and_then, nat_le, if◌then◌else◌}
+use Rattle.std.specs.Prelude.{ℕ, ◌-◌, List, [], ◌∷◌, ◌++◌, length, replicate, Option, Some, None, option_and_then, nat_le, if◌then◌else◌}
 use Rattle.std.specs.Option.{option_map}
 use Rattle.class_form.specs.declared.member.MemberInfo.{MemberInfo}
 use Rattle.class_form.specs.declared.member.Code.{Code}
 use Rattle.jp_store.specs.declared.value.Value.{Value}
-use Rattle.jp_store.specs.declared.value.Value.TheVariants.{Int, Long, Null, Ref, Text}
 use Rattle.jvm_table.specs.declared.frame.Frame.{Frame}
-use Rattle.jvm_table.specs.Act.{Target, StaticMethod, VirtualMethod, Constructor, MethodAbove, is_single}
+use Rattle.jvm_table.specs.Act.{is_single}
 
 -- arguments as local variables: a long takes two
 abbrev pub placed : List Value → List (Option Value)
@@ -24,15 +23,3 @@ entered code locals = record { place = 0; locals = locals; stack = record { room
 -- a method with its arguments before its first instruction, if it has code, and room for them
 abbrev pub entry : MemberInfo → List Value → Option Frame
 entry method args = option_and_then (λ code. option_map (entered code) (variables code.max_locals (placed args))) method.code
-
--- whether a receiver is null
-abbrev pub is_on_null : Target → List Value → Bool
-is_on_null target [] = false
-is_on_null target (Int n ∷ more) = false
-is_on_null target (Long n ∷ more) = false
-is_on_null target (Ref o ∷ more) = false
-is_on_null target (Text t ∷ more) = false
-is_on_null (StaticMethod key) (Null ∷ more) = false
-is_on_null (VirtualMethod name descriptor) (Null ∷ more) = true
-is_on_null (Constructor key) (Null ∷ more) = true
-is_on_null (MethodAbove class name descriptor) (Null ∷ more) = true

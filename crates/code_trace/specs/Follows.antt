@@ -1,13 +1,12 @@
 -- What it means that code does what an evaluation does.
-use Rattle.std.specs.Prelude.{◌≡◌, ℕ, zero, suc, ◌+◌, ◌-◌, ◌<◌, ℤ, List, Bool, true, false, Option, Some, None}
+use Rattle.std.specs.Prelude.{◌≡◌, ℕ, zero, suc, ◌+◌, ◌-◌, ◌<◌, ℤ, List, Bool, Option, Some, None}
 use Rattle.jp_store.specs.declared.value.Value.{Value}
-use Rattle.jp_store.specs.declared.value.TrapKind.{TrapKind}
-use Rattle.jp_store.specs.declared.value.TrapKind.TheVariants.{NullReference}
+use Rattle.jp_store.specs.declared.value.Value.TheVariants.{Ref}
+use Rattle.jp_store.specs.Work.{Op, GetField, PutField, GetStatic, PutStatic, MakeObject, MakeArray, GetElem, PutElem, Length, InstanceOf, Cast}
 use Rattle.jp_does.specs.Does.{Gives, Traps, Ticks, Prints, Shows, Reads, Works, Calls, Limit, Stuck}
 use Rattle.jp_meaning.specs.Does.{Does}
 use Rattle.jvm_table.specs.declared.frame.Frame.{Frame}
-use Rattle.jvm_table.specs.Act.{Act, Moves, ShowsInt, ShowsText, Asks, Effects, Invokes, Leaves, Fails, NoRow, answered}
-use Rattle.code_trace.specs.Entry.{is_on_null}
+use Rattle.jvm_table.specs.Act.{Act, Moves, ShowsInt, ShowsText, Asks, Effects, Invokes, Leaves, Fails, answered}
 use Rattle.code_trace.specs.Calls.{call_in}
 use Rattle.code_trace.specs.CodeTrace.{with_read, value_left}
 
@@ -27,24 +26,26 @@ abbrev pub Onward : {A : Type 0} → Option Frame → Does A → (Frame → Type
 Onward None d go = d ≡ Stuck
 Onward (Some f) d go = go f
 
--- what is left to do is a trap, or a call on null, which is one
-abbrev pub IsTrap : TrapKind → Act → Type 0
-IsTrap kind (Fails trap) = trap ≡ kind
-IsTrap kind (Invokes call push f) = (is_on_null call.target call.args ≡ true) × (NullReference ≡ kind)
-IsTrap kind (Moves f) = ⊥
-IsTrap kind (ShowsInt n f) = ⊥
-IsTrap kind (ShowsText text f) = ⊥
-IsTrap kind (Asks f) = ⊥
-IsTrap kind (Effects op push f) = ⊥
-IsTrap kind (Leaves v) = ⊥
-IsTrap kind NoRow = ⊥
+-- what an operation may answer: a new object isn't null
+abbrev pub MayAnswer : Op → Value → Type 0
+MayAnswer (MakeObject name) v = (o : ℕ) × (v ≡ Ref o)
+MayAnswer (GetField r key) v = Unit {0}
+MayAnswer (PutField r key u) v = Unit {0}
+MayAnswer (GetStatic key) v = Unit {0}
+MayAnswer (PutStatic key u) v = Unit {0}
+MayAnswer (MakeArray elements size) v = Unit {0}
+MayAnswer (GetElem kind r index) v = Unit {0}
+MayAnswer (PutElem kind r index u) v = Unit {0}
+MayAnswer (Length r) v = Unit {0}
+MayAnswer (InstanceOf r name) v = Unit {0}
+MayAnswer (Cast r name) v = Unit {0}
 
 -- The code of a class does what the evaluation does, from this frame on, out of a budget of instructions to which each
 -- tick adds so many. Where the evaluation gives a value, the code has come to a frame as `Q` says, with what is left.
 -- Where it is at its limit or stuck, nothing is said
 abbrev pub Follows : {A : Type 0} → (Frame → Act) → List ℕ → ℕ → (A → ℕ → Frame → Type 0) → ℕ → Frame → Does A → Type 0
 Follows run current more Q budget f (Gives a) = (left : ℕ) × (to : Frame) × Comes run budget f left to × Q a left to
-Follows run current more Q budget f (Traps kind) = (left : ℕ) × (to : Frame) × Comes run budget f (suc left) to × IsTrap kind (run to)
+Follows run current more Q budget f (Traps kind) = (left : ℕ) × (to : Frame) × Comes run budget f (suc left) to × (run to ≡ Fails kind)
 Follows run current more Q budget f (Ticks d) =
     (left : ℕ) × (to : Frame) × Comes run budget f left to × (left < budget) × Follows run current more Q (left + more) to d
 Follows run current more Q budget f (Prints n d) =
@@ -56,10 +57,9 @@ Follows run current more Q budget f (Reads d) =
     × ((n : ℤ) → Follows run current more Q left (with_read n on) (d n))
 Follows run current more Q budget f (Works op d) =
     (left : ℕ) × (to : Frame) × (on : Frame) × (push : Bool) × Comes run budget f (suc left) to × (run to ≡ Effects op push on)
-    × ((v : Value) → Onward (answered push v on) (d v) (λ g. Follows run current more Q left g (d v)))
+    × ((v : Value) → MayAnswer op v → Onward (answered push v on) (d v) (λ g. Follows run current more Q left g (d v)))
 Follows run current more Q budget f (Calls c d) =
     (left : ℕ) × (to : Frame) × (on : Frame) × (push : Bool) × Comes run budget f (suc left) to × (run to ≡ Invokes (call_in current c) push on)
-    × (is_on_null (call_in current c).target c.args ≡ false)
     × ((v : Value) → Onward (answered push v on) (d v) (λ g. Follows run current more Q left g (d v)))
 Follows run current more Q budget f Limit = Unit {0}
 Follows run current more Q budget f Stuck = Unit {0}

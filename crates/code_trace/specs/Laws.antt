@@ -1,5 +1,5 @@
 -- What does what an evaluation does has its open traces.
-use Rattle.std.specs.Prelude.{ℕ, suc, List, Some}
+use Rattle.std.specs.Prelude.{ℕ, suc, List}
 use Rattle.jp_store.specs.declared.value.Value.{Value}
 use Rattle.jp_store.specs.Store.{Store}
 use Rattle.jp_does.specs.OpenTrace.{Answer, open_trace}
@@ -16,4 +16,4 @@ abbrev pub WhatFollowsHasTraces : Type 0
 WhatFollowsHasTraces =
     (run : Frame → Act) (current : List ℕ) (more : ℕ) (d : Does Value) (budget : ℕ) (f : Frame) (t : ℕ) (answers : List (Answer End)) (s : Store) (i : List ℕ) →
     IsDeep (suc t) d → Follows run current more (Leaving run) budget f d →
-    (n : ℕ) × IsTraceOf current (trace_from run (Some f) n answers s i) (open_trace t answers s i d) budget more
+    (n : ℕ) × IsTraceOf current (trace_from run f n answers s i) (open_trace t answers s i d) budget more

@@ -23,14 +23,13 @@ use Rattle.jvm_table.specs.declared.instr.Instr.TheVariants.{OnConstant, InvokeI
 use Rattle.jvm_table.specs.declared.instr.ConstantUse.TheVariants.{InvokeVirtual, InvokeStatic}
 use Rattle.jvm_table.specs.Descriptors.{Signature, signature_of, places_of}
 use Rattle.jvm_table.specs.Act.{Act, Asks, Invokes, StaticMethod, VirtualMethod, answered, popped, on_found, on_pop, on_receiver, args_taken, invoked, calls, calls_virtual, calls_interface, calls_static, shows_int, shows_text, has_room, is_print, is_text, is_read, is_object_init, where_so as where_row}
-use Rattle.code_trace.specs.Entry.{is_on_null}
-use Rattle.code_trace.specs.Calls.{key_of_method, target_in, call_in}
+use Rattle.code_trace.specs.Calls.{key_of_method, call_in}
 use Rattle.code_trace.specs.Follows.{Onward}
-use Rattle.code_trace.proofs.Follow.{seq, stop, calls_on as calling, fails}
 use Rattle.code_asm.specs.Items.{Item, Uses}
 use Rattle.gen_body.specs.Codes.{called, signature_for, named, virtual_call}
 use Rattle.gen_body.proofs.Values.{IsShortIf, types_short, neither}
-use Rattle.gen_body.proofs.Blocks.{Setting, all_on, run, at, Standing, Going, Room, parted, at_row, from_here, IsAt, IsVoid, Runs, answer_on, plain_runs, void_runs}
+use Rattle.gen_body.proofs.Going.{Setting, run, at, Standing, parted, Here, Held, Going, lost, from_here, seq, stop, fails, calls_on as calling}
+use Rattle.gen_body.proofs.Blocks.{all_on, Room, at_row, IsAt, IsVoid, Runs, answer_on, plain_runs, void_runs}
 
 -- arguments from the stack
 one_taken : (kind : Kind) (kinds : List Kind) (v : Value) (vs st : List Value) (g h i : Frame) → is_kind kind v ≡ true → args_taken kinds g ≡ Some (vs, h) → popped h.stack.values h ≡ Some (v, i) → args_taken (kind ∷ kinds) g ≡ Some (v ∷ vs, i)
@@ -130,49 +129,41 @@ module _ (w : Setting) where
 
   -- the answer of a call
   pub answer_fits : (o : Option Kind) → IsShortIf o → (need : ℕ) (v : Value) (to : ℕ) (env : Locals) (st : List Value) (c b : ℕ) → b ≤ c → Room w (needed o need) st → Onward (answered (is_some o) v (at w to env st)) (fit o v) (λ g. Going w (Came o to env st b) c g (fit o v))
-  answer_fits None short need v to env st c b le room = stop (run w) w.current w.more (IsVoid w to env st b) c (at w to env st) Null (le, refl, refl)
+  answer_fits None short need v to env st c b le room = stop w (IsVoid w to env st b) c (at w to env st) Null (le, refl, refl)
   answer_fits (Some kind) short need v to env st c b le room = answer_on w kind short v to env st c b le (omega (arith, room))
 
   -- a condition without which it is stuck
   pub by_so : {B : Type 0} (R : B → ℕ → Frame → Type 0) (x : Bool) (c : ℕ) (f : Frame) (d : Does B) → (x ≡ true → Going w R c f d) → Going w R c f (where_so x d)
   by_so R true c f d h = h refl
-  by_so R false c f d h = tt
-
-  static_null : (m : Method) (vs : List Value) → is_on_null (target_in w.current (source.StaticMethod m)) vs ≡ false
-  static_null m [] = refl
-  static_null m (Int n ∷ vs) = refl
-  static_null m (Long n ∷ vs) = refl
-  static_null m (Null ∷ vs) = refl
-  static_null m (Ref o ∷ vs) = refl
-  static_null m (Text t ∷ vs) = refl
+  by_so R false c f d h = lost w R c f
 
   pub static_last : (m : Method) (params : List Ty) (t : Ty) (vs : List Value) (need : ℕ) (pc to : ℕ) (env : Locals) (st : List Value) (c b : ℕ) → Standing w pc (Uses InvokeStatic (named m params t) ∷ []) to → 1 + b ≤ c → Room w (needed (kind_of_type t) need) st → Going w (Came (kind_of_type t) to env st b) c (at w pc env (all_on vs st)) (where_so (are_of params vs) (Calls (record { target = source.StaticMethod m; args = vs }) (fit (kind_of_type t))))
   static_last m params t vs need pc to env st c b s le room =
       let Q : Value → ℕ → Frame → Type 0 = Came (kind_of_type t) to env st b in
       by_so Q (are_of params vs) c (at w pc env (all_on vs st)) (Calls (record { target = source.StaticMethod m; args = vs }) (fit (kind_of_type t))) (λ ok.
-      calling (run w) w.current w.more Q c (at w pc env (all_on vs st)) (at w to env st) (record { target = source.StaticMethod m; args = vs }) (is_some (kind_of_type t)) (fit (kind_of_type t)) (omega (arith, le))
-      (static_row m params t vs st pc to [] env s ok ∙ ap (λ k. Invokes (call_in w.current (record { target = source.StaticMethod m; args = vs })) (is_some (kind_of_type t)) (at w k env st)) s.4) (static_null m vs)
+      calling w Q c (at w pc env (all_on vs st)) (at w to env st) (record { target = source.StaticMethod m; args = vs }) (is_some (kind_of_type t)) (fit (kind_of_type t)) (λ h. h) (omega (arith, le))
+      (static_row m params t vs st pc to [] env s ok ∙ ap (λ k. Invokes (call_in w.current (record { target = source.StaticMethod m; args = vs })) (is_some (kind_of_type t)) (at w k env st)) s.4)
       (λ v. answer_fits (kind_of_type t) (types_short t) need v to env st (c - 1) b (omega (arith, le)) room))
 
   -- a call by a receiver that is there
-  on_ref : {B : Type 0} (Q : B → ℕ → Frame → Type 0) (target : source.Target) (r : ℕ) (vs : List Value) (push : Bool) (ans : Value → Does B) (c : ℕ) (f on : Frame) → 1 ≤ c → run w f ≡ Invokes (call_in w.current (record { target = target; args = Ref r ∷ vs })) push on → ((v : Value) → Onward (answered push v on) (ans v) (λ g. Going w Q (c - 1) g (ans v))) → Going w Q c f (then_do (calls_on target (Ref r) vs) ans)
-  on_ref Q target r vs push ans c f on le e k =
-      calling (run w) w.current w.more Q c f on (record { target = target; args = Ref r ∷ vs }) push ans le e refl k
+  on_ref : {B : Type 0} (Q : B → ℕ → Frame → Type 0) (target : source.Target) (r : ℕ) (vs : List Value) (push : Bool) (ans : Value → Does B) (c : ℕ) (f on : Frame) → (Held w f → Held w on) → 1 ≤ c → run w f ≡ Invokes (call_in w.current (record { target = target; args = Ref r ∷ vs })) push on → ((v : Value) → Onward (answered push v on) (ans v) (λ g. Going w Q (c - 1) g (ans v))) → Going w Q c f (then_do (calls_on target (Ref r) vs) ans)
+  on_ref Q target r vs push ans c f on keep le e k =
+      calling w Q c f on (record { target = target; args = Ref r ∷ vs }) push ans keep le e k
 
   pub virtual_last : (is_interface : Bool) (m : Method) (params : List Ty) (t : Ty) (o : Value) (vs : List Value) (need : ℕ) (pc to : ℕ) (env : Locals) (st : List Value) (c b : ℕ) → Standing w pc (virtual_call is_interface m params t ∷ []) to → 1 + b ≤ c → Room w (needed (kind_of_type t) need) st → Going w (Came (kind_of_type t) to env st b) c (at w pc env (all_on vs (o ∷ st))) (where_so (are_of params vs) (then_do (calls_on (cond is_interface (source.OfInterface m) (source.OfClass m)) o vs) (fit (kind_of_type t))))
   virtual_last is_interface m params t o vs need pc to env st c b s le room =
       let Q : Value → ℕ → Frame → Type 0 = Came (kind_of_type t) to env st b in
       by_so Q (are_of params vs) c (at w pc env (all_on vs (o ∷ st))) _ (λ ok. by_receiver o (virtual_row is_interface m params t o vs st pc to [] env s ok ∙ ap (λ k. on_receiver o (Invokes (record { target = VirtualMethod m.name m.descriptor; args = o ∷ vs }) (is_some (kind_of_type t)) (at w k env st))) (behind_it is_interface m params t pc to [] s))) where
-        by_target : (is_interface : Bool) (r : ℕ) (f : Frame) → run w f ≡ Invokes (record { target = VirtualMethod m.name m.descriptor; args = Ref r ∷ vs }) (is_some (kind_of_type t)) (at w to env st) → Going w (Came (kind_of_type t) to env st b) c f (then_do (calls_on (cond is_interface (source.OfInterface m) (source.OfClass m)) (Ref r) vs) (fit (kind_of_type t)))
-        by_target true r f e = on_ref (Came (kind_of_type t) to env st b) (source.OfInterface m) r vs (is_some (kind_of_type t)) (fit (kind_of_type t)) c f (at w to env st) (omega (arith, le)) e (λ v. answer_fits (kind_of_type t) (types_short t) need v to env st (c - 1) b (omega (arith, le)) room)
-        by_target false r f e = on_ref (Came (kind_of_type t) to env st b) (source.OfClass m) r vs (is_some (kind_of_type t)) (fit (kind_of_type t)) c f (at w to env st) (omega (arith, le)) e (λ v. answer_fits (kind_of_type t) (types_short t) need v to env st (c - 1) b (omega (arith, le)) room)
+        by_target : (is_interface : Bool) (r : ℕ) (f : Frame) → (Held w f → Here w env) → run w f ≡ Invokes (record { target = VirtualMethod m.name m.descriptor; args = Ref r ∷ vs }) (is_some (kind_of_type t)) (at w to env st) → Going w (Came (kind_of_type t) to env st b) c f (then_do (calls_on (cond is_interface (source.OfInterface m) (source.OfClass m)) (Ref r) vs) (fit (kind_of_type t)))
+        by_target true r f keep e = on_ref (Came (kind_of_type t) to env st b) (source.OfInterface m) r vs (is_some (kind_of_type t)) (fit (kind_of_type t)) c f (at w to env st) keep (omega (arith, le)) e (λ v. answer_fits (kind_of_type t) (types_short t) need v to env st (c - 1) b (omega (arith, le)) room)
+        by_target false r f keep e = on_ref (Came (kind_of_type t) to env st b) (source.OfClass m) r vs (is_some (kind_of_type t)) (fit (kind_of_type t)) c f (at w to env st) keep (omega (arith, le)) e (λ v. answer_fits (kind_of_type t) (types_short t) need v to env st (c - 1) b (omega (arith, le)) room)
 
         by_receiver : (o : Value) → run w (at w pc env (all_on vs (o ∷ st))) ≡ on_receiver o (Invokes (record { target = VirtualMethod m.name m.descriptor; args = o ∷ vs }) (is_some (kind_of_type t)) (at w to env st)) → Going w (Came (kind_of_type t) to env st b) c (at w pc env (all_on vs (o ∷ st))) (then_do (calls_on (cond is_interface (source.OfInterface m) (source.OfClass m)) o vs) (fit (kind_of_type t)))
-        by_receiver (Ref r) e = by_target is_interface r (at w pc env (all_on vs (Ref r ∷ st))) e
-        by_receiver Null e = fails (run w) w.current w.more (Came (kind_of_type t) to env st b) c (at w pc env (all_on vs (Null ∷ st))) NullReference (omega (arith, le)) e
-        by_receiver (Int n) e = tt
-        by_receiver (Long n) e = tt
-        by_receiver (Text n) e = tt
+        by_receiver (Ref r) e = by_target is_interface r (at w pc env (all_on vs (Ref r ∷ st))) (λ h. h) e
+        by_receiver Null e = fails w (Came (kind_of_type t) to env st b) c (at w pc env (all_on vs (Null ∷ st))) NullReference (omega (arith, le)) e
+        by_receiver (Int n) e = λ held. tt
+        by_receiver (Long n) e = λ held. tt
+        by_receiver (Text n) e = λ held. tt
 
   -- arguments on the stack
   abbrev pub AreAt : ℕ → Locals → List Value → ℕ → List Value → ℕ → Frame → Type 0
@@ -185,6 +176,6 @@ module _ (w : Setting) where
   args_then R is rest need d go h pc to env st b0 b s le room k =
       let p = parted w is rest pc to s in
       let l = length-append is rest in
-      seq (run w) w.current w.more (AreAt p.mid env st (length rest + b)) R go
+      seq w (AreAt p.mid env st (length rest + b)) R go
       (λ vs c f q. from_here w R c f (at w p.mid env (all_on vs st)) (go vs) q.1 (k vs p.mid c p.back q.0))
       (d env) b0 (at w pc env st) (h pc p.mid env st b0 (length rest + b) p.front (omega (arith, l, le)) room)

@@ -20,10 +20,10 @@ use Rattle.jp_meaning.specs.Descriptors.{kind_of_type}
 use Rattle.jp_meaning.specs.Expressions.{Locals, is_of, are_of}
 use Rattle.jp_meaning.specs.Members.{locals_of}
 use Rattle.code_trace.specs.Entry.{placed, variables, entered, entry}
-use Rattle.code_trace.specs.OpenTraces.{are_given}
+use Rattle.code_trace.specs.Given.{are_given}
 use Rattle.gen_body.specs.Members.{given_to}
 use Rattle.gen_body.proofs.Values.{IsNarrow, IsShortIf, of_short, types_short}
-use Rattle.gen_body.proofs.Blocks.{Setting, at}
+use Rattle.gen_body.proofs.Going.{Setting, at}
 
 abbrev pub AreNarrow : List Value → Type 0
 AreNarrow [] = Unit {0}

@@ -26,12 +26,13 @@ use Rattle.jp_meaning.specs.declared.stmt.TypedStmtKind.TheVariants as stmt
 use Rattle.jp_meaning.specs.declared.unit.TypedPart.TheVariants as part
 use Rattle.jp_meaning.specs.declared.unit.TypedMember.{TypedMember}
 use Rattle.std.specs.Option.{option_map}
+use Rattle.std.specs.List.{list_all}
 use Rattle.jvm_table.specs.Descriptors.{Signature}
 use Rattle.code_asm.specs.Items.{Stands}
 use Rattle.gen_body.specs.Codes.{Zero, Anything, Coded, plain, push_int, no_spot, coded_step, coded}
 use Rattle.gen_body.specs.Statements.{Part, Made, in_row, repeat, declare, bump, nothing, made}
 use Rattle.gen_body.specs.Members.{end_code, member_code}
-use Rattle.gen_body.specs.Correct.{IsCodeOf}
+use Rattle.gen_body.specs.Correct.{IsCodeOf, keeps, KeepsReceiver}
 use Rattle.gen_body.proofs.Signatures.{signatures_read_back}
 
 abbrev here : Place
@@ -197,3 +198,8 @@ loop_is_code hier =
       locals = refl;
       slots = omega arith;
     }
+
+pub loop_keeps : (hier : Hier) → KeepsReceiver hier head main
+loop_keeps hier =
+    let same : member_code hier head main ≡ framed_of (declared (N 0) ∷ looping L B ∷ []) = ap framed_of block_is in
+    subst (λ (c : Part). list_all (keeps false) c.items ≡ true) (sym same) refl

@@ -18,31 +18,31 @@ use Rattle.jp_store.specs.declared.operator.Test.{Test}
 use Rattle.jp_store.specs.declared.outcome.Outcome.TheVariants.{Fine}
 use Rattle.jp_store.specs.Arith.{binary, negated, compares, is_kind, on_int, of_truth}
 use Rattle.jp_store.specs.Classes.{Key}
-use Rattle.jp_store.specs.Work.{Op, NamedElement, IntElements, BooleanElements, ClassElements, GetField as FieldRead, GetStatic as StaticRead, MakeObject as ObjectMade, MakeArray, GetElem, Length, InstanceOf as InstanceTest, Cast}
+use Rattle.jp_store.specs.Work.{Op, NamedElement, IntElements, BooleanElements, ClassElements, GetField as FieldRead, GetStatic as StaticRead, MakeArray, GetElem, Length, InstanceOf as InstanceTest, Cast}
 use Rattle.jp_does.specs.Does.{Gives, Prints, Shows, Works, Stuck, then_do, do_of, found}
 use Rattle.jp_meaning.specs.declared.expr.TypedExpr.{TypedExpr}
 use Rattle.jp_meaning.specs.declared.expr.TypedKind.{TypedKind, TypedKind-F}
 use Rattle.jp_meaning.specs.declared.expr.TypedKind.TheOpen as form
 use Rattle.jp_meaning.specs.declared.expr.TypedKind.TheFolds.{ind-TypedExpr, fold-TypedKind, fold-roll-TypedExpr, fold-roll-TypedKind, map-TypedKind}
-use Rattle.jp_meaning.specs.Does.{Does}
+use Rattle.jp_meaning.specs.Does.{Does, OfSuperclass, calls_on}
 use Rattle.jp_meaning.specs.Descriptors.{internal_name, method_of, key_of, kind_of_type, element_kind_of, elements_of}
 use Rattle.jp_meaning.specs.Signs.{Prefix, Plus, Minus, Not, Complement, Infix, Operates, Compares, AndThen, OrElse, prefix_of, infix_of}
-use Rattle.jp_meaning.specs.Expressions.{Locals, fits, typed, local_value, Spot, Slot, FieldOf, StaticAt, ElementOf, Meant, values_of, prefixed, compares_references, infixed, construct, meant_step, meant}
+use Rattle.jp_meaning.specs.Expressions.{Locals, fits, typed, fit, are_of, where_so, local_value, Spot, Slot, FieldOf, StaticAt, ElementOf, Meant, values_of, prefixed, compares_references, infixed, construct, meant_step, meant}
 use Rattle.jvm_table.specs.declared.frame.Frame.{Frame}
 use Rattle.jvm_table.specs.declared.instr.Instr.TheVariants.{PushNull, PushInt, Load, LoadElement, MakeNumbers, MakeTruths, ArrayLength, Dup, Binary, Negate, OnConstant}
 use Rattle.jvm_table.specs.declared.instr.ConstantUse.TheVariants.{PushConstant, GetStatic, GetField, InvokeStatic, InvokeSpecial, MakeObject, MakeReferences, CheckCast, InstanceOf}
 use Rattle.jvm_table.specs.Constants.{string_in}
 use Rattle.jvm_table.specs.Act.{ShowsText, Asks, Effects, pushed, on_found, acted, shows_int, constant_value, calls_static, where_so as where_row}
-use Rattle.code_trace.proofs.Follow.{seq, stop, moves, shows_on, texts_on, asks_on}
 use Rattle.code_asm.specs.Items.{Wanted, IntOf, TextOf, ClassOf, Item, Plain, Uses}
 use Rattle.code_asm.specs.Items as item
 use Rattle.gen_body.specs.Codes.{Codes, plain, push_int, make_array, io, construction, virtual_call, named, family, Place, LocalAt, FieldAt, ElementAt, Literal, Zero, Nil, Anything, SpotCodes, Coded, compare_both, compare_codes, row_codes, prefix_codes, infix_codes, local_codes, array_codes, local_spot, coded_step, coded, jump_by, jump_by_zero, jump_by_null, and_test, or_test, choice}
 use Rattle.gen_body.specs.Codes as code
 use Rattle.gen_body.proofs.Values.{IsNarrow, IsShort, IsShortIf, types_short, binary_narrow, negated_narrow}
-use Rattle.gen_body.proofs.Blocks.{Setting, all_on, dup_row, run, at, Standing, Going, Room, at_row, has_push, push_row, IsAt, IsOver, IsVoid, Pushes, Runs, operand, push_last, outcome_last, fit_last, work_last, typed_last, plain_runs, void_runs, judged_runs}
+use Rattle.gen_body.proofs.Going.{Setting, run, at, Standing, parted, Going, family_received, seq, stop, moves, shows_on, texts_on, asks_on}
+use Rattle.gen_body.proofs.Blocks.{all_on, dup_row, Room, at_row, has_push, push_row, IsAt, IsOver, IsVoid, Pushes, Runs, operand, push_last, outcome_last, fit_last, work_last, typed_last, plain_runs, void_runs, judged_runs}
 use Rattle.gen_body.proofs.Conditions.{not_judges, and_judges, or_judges, compare_judges, zero_judges, null_judges, choice_run, value_over}
 use Rattle.gen_body.proofs.Calls.{Came, need_le, called_runs, static_last, virtual_last, AreAt, Fills, args_then}
-use Rattle.gen_body.proofs.Specials.{super_last, construct_last}
+use Rattle.gen_body.proofs.Specials.{receiver_then, made_then, super_last, construct_last}
 
 -- the parts of what is assigned to, above the stack
 abbrev pub parts_on : Spot → List Value → List Value
@@ -82,9 +82,9 @@ module _ (w : Setting) where
   pub int_last : (n : ℤ) (pc to : ℕ) (env : Locals) (st : List Value) (b0 b : ℕ) → Standing w pc (push_int n ∷ []) to → 1 + b ≤ b0 → Room w 1 st → Going w (IsAt w to env st b) b0 (at w pc env st) (Gives (Int n))
   int_last n pc to env st b0 b s le room = by_size (code.is_short n) s where
     by_size : (x : Bool) → Standing w pc (cond x (Plain (PushInt n)) (Uses PushConstant (IntOf n)) ∷ []) to → Going w (IsAt w to env st b) b0 (at w pc env st) (Gives (Int n))
-    by_size true s = push_last w (Int n) to env st b0 b (at w pc env st) le refl room (at_row w (PushInt n) pc s.0 env st s.1 ∙ ap (λ k. pushed (Int n) (at w k env st)) s.2)
+    by_size true s = push_last w (Int n) to env st b0 b (at w pc env st) (λ h. h) le refl room (at_row w (PushInt n) pc s.0 env st s.1 ∙ ap (λ k. pushed (Int n) (at w k env st)) s.2)
     by_size false s =
-        push_last w (Int n) to env st b0 b (at w pc env st) le refl room
+        push_last w (Int n) to env st b0 b (at w pc env st) (λ h. h) le refl room
         (at_row w (OnConstant PushConstant s.0) pc s.1 env st s.2
         ∙ ap (λ (o : Option Const). on_found (option_and_then (constant_value w.file s.0) o) (λ v. pushed v (at w s.1 env st))) s.3
         ∙ ap (λ k. pushed (Int n) (at w k env st)) s.4)
@@ -93,42 +93,42 @@ module _ (w : Setting) where
   pub load_last : (kind : Kind) → IsShort kind → (slot pc to : ℕ) (env : Locals) (st : List Value) (b0 b : ℕ) → Standing w pc (Plain (Load kind slot) ∷ []) to → 1 + b ≤ b0 → Room w 1 st → Going w (IsAt w to env st b) b0 (at w pc env st) (local_value slot kind env)
   load_last kind short slot pc to env st b0 b s le room = by_value (option_and_then (λ v. v) (slice_get env slot)) (at_row w (Load kind slot) pc s.0 env st s.1) where
     by_value : (o : Option Value) → run w (at w pc env st) ≡ on_found o (λ v. where_row (is_kind kind v) (pushed v (at w s.0 env st))) → Going w (IsAt w to env st b) b0 (at w pc env st) (found o (fits kind))
-    by_value None e = tt
-    by_value (Some v) e = fit_last w kind short v to env st b0 b (at w pc env st) le room (e ∙ ap (λ k. where_row (is_kind kind v) (pushed v (at w k env st))) s.2)
+    by_value None e = λ held. tt
+    by_value (Some v) e = fit_last w kind short v to env st b0 b (at w pc env st) (λ h. h) le room (e ∙ ap (λ k. where_row (is_kind kind v) (pushed v (at w k env st))) s.2)
 
   local_runs : (o : Option Kind) → IsShortIf o → (slot n : ℕ) → Runs w (local_codes o slot n) (λ env. found o (λ kind. local_value slot kind env))
-  local_runs None short slot n = plain_runs w [] 0 n (λ env. Stuck) (λ pc to env st b0 b s le room. tt)
+  local_runs None short slot n = plain_runs w [] 0 n (λ env. Stuck) (λ pc to env st b0 b s le room. λ held. tt)
   local_runs (Some kind) short slot n = plain_runs w (Plain (Load kind slot) ∷ []) 1 n (local_value slot kind) (λ pc to env st b0 b s le room. load_last kind short slot pc to env st b0 b s le room)
 
   -- an operator in front
   plus_runs : (m : Meant) (c : Codes) → Runs w c m.value → Pushes w c.value c.need (λ env. prefixed Plus (m.value env))
   plus_runs m c h pc to env st b0 b s le room =
-      seq (run w) w.current w.more (IsAt w to env st b) (IsAt w to env st b) (λ v. do_of (on_int (λ n. Fine (Int n)) v) Gives) same_int
+      seq w (IsAt w to env st b) (IsAt w to env st b) (λ v. do_of (on_int (λ n. Fine (Int n)) v) Gives) same_int
       (m.value env) b0 (at w pc env st) (h.value pc to env st b0 b s le room) where
         same_int : (v : Value) (c : ℕ) (f : Frame) → IsAt w to env st b v c f → Going w (IsAt w to env st b) c f (do_of (on_int (λ n. Fine (Int n)) v) Gives)
-        same_int (Int n) c f q = stop (run w) w.current w.more (IsAt w to env st b) c f (Int n) q
-        same_int (Long n) c f q = tt
-        same_int Null c f q = tt
-        same_int (Ref o) c f q = tt
-        same_int (Text t) c f q = tt
+        same_int (Int n) c f q = stop w (IsAt w to env st b) c f (Int n) q
+        same_int (Long n) c f q = λ held. tt
+        same_int Null c f q = λ held. tt
+        same_int (Ref o) c f q = λ held. tt
+        same_int (Text t) c f q = λ held. tt
 
   prefix_runs : (o : Option Prefix) (m : Meant) (k : Coded) → Sure m k → (n : ℕ) → Runs w (prefix_codes o k n) (λ env. found o (λ op. prefixed op (m.value env)))
-  prefix_runs None m k h n = plain_runs w [] 0 n (λ env. Stuck) (λ pc to env st b0 b s le room. tt)
+  prefix_runs None m k h n = plain_runs w [] 0 n (λ env. Stuck) (λ pc to env st b0 b s le room. λ held. tt)
   prefix_runs (Some Plus) m k h n = let c = k.codes n in plain_runs w c.value c.need c.next (λ env. prefixed Plus (m.value env)) (plus_runs m c (h.value n))
   prefix_runs (Some Minus) m k h n =
       let c = k.codes n in
       plain_runs w (c.value ++ Plain Negate ∷ []) c.need c.next (λ env. prefixed Minus (m.value env)) (λ pc to env st b0 b s le room.
       operand w (IsAt w to env st b) c.value (Plain Negate ∷ []) c.need m.value (λ v. do_of (negated v) Gives) (h.value n).value pc to env st b0 b s le room (λ v m1 c1 nv s1 le1.
-      outcome_last w (negated v) to env st c1 b (at w m1 env (v ∷ st)) (omega (arith, le1)) (negated_narrow v) nv.1
+      outcome_last w (negated v) to env st c1 b (at w m1 env (v ∷ st)) (λ h. h) (omega (arith, le1)) (negated_narrow v) nv.1
       (at_row w Negate m1 s1.0 env (v ∷ st) s1.1 ∙ ap (λ k. acted (negated v) (λ u. pushed u (at w k env st))) s1.2)))
   prefix_runs (Some Complement) m k h n =
       let c = k.codes n in
       let last : List Item = Plain (PushInt (negsuc 0)) ∷ Plain (Binary Xor) ∷ [] in
       plain_runs w (c.value ++ last) (max c.need 2) c.next (λ env. prefixed Complement (m.value env)) (λ pc to env st b0 b s le room.
       operand w (IsAt w to env st b) c.value last c.need m.value (λ v. do_of (binary Xor v (Int (negsuc 0))) Gives) (h.value n).value pc to env st b0 b s le (omega (arith, room)) (λ v m1 c1 nv s1 le1.
-      moves (run w) w.current w.more (IsAt w to env st b) c1 (at w m1 env (v ∷ st)) (at w s1.0 env (Int (negsuc 0) ∷ v ∷ st)) (do_of (binary Xor v (Int (negsuc 0))) Gives) (omega (arith, le1))
+      moves w (IsAt w to env st b) c1 (at w m1 env (v ∷ st)) (at w s1.0 env (Int (negsuc 0) ∷ v ∷ st)) (do_of (binary Xor v (Int (negsuc 0))) Gives) (λ h. h) (omega (arith, le1))
       (at_row w (PushInt (negsuc 0)) m1 s1.0 env (v ∷ st) s1.1 ∙ push_row w (Int (negsuc 0)) s1.0 env (v ∷ st) refl (omega (arith, room, nv.0)))
-      (outcome_last w (binary Xor v (Int (negsuc 0))) to env st (c1 - 1) b (at w s1.0 env (Int (negsuc 0) ∷ v ∷ st)) (omega (arith, le1)) (binary_narrow Xor v (Int (negsuc 0))) nv.1
+      (outcome_last w (binary Xor v (Int (negsuc 0))) to env st (c1 - 1) b (at w s1.0 env (Int (negsuc 0) ∷ v ∷ st)) (λ h. h) (omega (arith, le1)) (binary_narrow Xor v (Int (negsuc 0))) nv.1
       (at_row w (Binary Xor) s1.0 s1.2.0 env (Int (negsuc 0) ∷ v ∷ st) s1.2.1 ∙ ap (λ k. acted (binary Xor v (Int (negsuc 0))) (λ u. pushed u (at w k env st))) s1.2.2))))
   prefix_runs (Some Not) m k h n =
       let c = k.codes (n + 2) in
@@ -157,13 +157,13 @@ module _ (w : Setting) where
 
   -- an operator between
   infix_runs : (o : Option Infix) (m1 m2 : Meant) (k1 k2 : Coded) → Sure m1 k1 → Sure m2 k2 → (n : ℕ) → Runs w (infix_codes o k1 k2 n) (λ env. found o (λ op. infixed op m1.ty (m1.value env) (m2.value env)))
-  infix_runs None m1 m2 k1 k2 h1 h2 n = plain_runs w [] 0 n (λ env. Stuck) (λ pc to env st b0 b s le room. tt)
+  infix_runs None m1 m2 k1 k2 h1 h2 n = plain_runs w [] 0 n (λ env. Stuck) (λ pc to env st b0 b s le room. λ held. tt)
   infix_runs (Some (Operates op)) m1 m2 k1 k2 h1 h2 n =
       let c = k1.codes n in let d = k2.codes c.next in
       plain_runs w (c.value ++ (d.value ++ Plain (Binary op) ∷ [])) (max c.need (1 + d.need)) d.next (λ env. infixed (Operates op) m1.ty (m1.value env) (m2.value env)) (λ pc to env st b0 b s le room.
       operand w (IsAt w to env st b) c.value (d.value ++ Plain (Binary op) ∷ []) c.need m1.value (λ x. then_do (m2.value env) (λ y. do_of (binary op x y) Gives)) (h1.value n).value pc to env st b0 b s le (omega (arith, room)) (λ x p1 c1 nx s1 le1.
       operand w (IsAt w to env st b) d.value (Plain (Binary op) ∷ []) d.need m2.value (λ y. do_of (binary op x y) Gives) (h2.value c.next).value p1 to env (x ∷ st) c1 b s1 le1 (omega (arith, room, nx.0)) (λ y p2 c2 ny s2 le2.
-      outcome_last w (binary op x y) to env st c2 b (at w p2 env (y ∷ x ∷ st)) (omega (arith, le2)) (binary_narrow op x y) nx.1
+      outcome_last w (binary op x y) to env st c2 b (at w p2 env (y ∷ x ∷ st)) (λ h. h) (omega (arith, le2)) (binary_narrow op x y) nx.1
       (at_row w (Binary op) p2 s2.0 env (y ∷ x ∷ st) s2.1 ∙ ap (λ k. acted (binary op x y) (λ u. pushed u (at w k env st))) s2.2))))
   infix_runs (Some (Compares test)) m1 m2 k1 k2 h1 h2 n =
       subst (λ t. Runs w (compare_codes (is_reference k1.ty) k2.literal test k1 k2 n) (λ env. infixed (Compares test) t (m1.value env) (m2.value env))) h1.same
@@ -197,12 +197,12 @@ module _ (w : Setting) where
 
   cast_last : (class : List ℕ) (v : Value) (p to : ℕ) (env : Locals) (st : List Value) (c b : ℕ) → Standing w p (Uses CheckCast (ClassOf class) ∷ []) to → 1 + b ≤ c → Room w 1 st → Going w (IsAt w to env st b) c (at w p env (v ∷ st)) (Works (Cast v class) (fits Reference))
   cast_last class v p to env st c b s le room =
-      work_last w Reference tt (Cast v class) to env st c b (at w p env (v ∷ st)) le room
+      work_last w Reference tt (Cast v class) to env st c b (at w p env (v ∷ st)) (λ h. h) le room
       (at_row w (OnConstant CheckCast s.0) p s.1 env (v ∷ st) s.2 ∙ ap (λ (o : Option (List ℕ)). on_found o (λ name. Effects (Cast v name) true (at w s.1 env st))) s.3 ∙ ap (λ k. Effects (Cast v class) true (at w k env st)) s.4)
 
   instance_last : (class : List ℕ) (v : Value) (p to : ℕ) (env : Locals) (st : List Value) (c b : ℕ) → Standing w p (Uses InstanceOf (ClassOf class) ∷ []) to → 1 + b ≤ c → Room w 1 st → Going w (IsAt w to env st b) c (at w p env (v ∷ st)) (Works (InstanceTest v class) (fits Number))
   instance_last class v p to env st c b s le room =
-      work_last w Number tt (InstanceTest v class) to env st c b (at w p env (v ∷ st)) le room
+      work_last w Number tt (InstanceTest v class) to env st c b (at w p env (v ∷ st)) (λ h. h) le room
       (at_row w (OnConstant InstanceOf s.0) p s.1 env (v ∷ st) s.2 ∙ ap (λ (o : Option (List ℕ)). on_found o (λ name. Effects (InstanceTest v name) true (at w s.1 env st))) s.3 ∙ ap (λ k. Effects (InstanceTest v class) true (at w k env st)) s.4)
 
   -- fields, static fields and elements
@@ -216,20 +216,20 @@ module _ (w : Setting) where
 
   field_last : (t : Ty) (key : Key) (v : Value) (p to : ℕ) (env : Locals) (st : List Value) (c b : ℕ) → Standing w p (Uses GetField (item.FieldOf key) ∷ []) to → 1 + b ≤ c → Room w 1 st → Going w (IsAt w to env st b) c (at w p env (v ∷ st)) (Works (FieldRead v key) (typed t))
   field_last t key v p to env st c b s le room =
-      typed_last w t (FieldRead v key) to env st c b (at w p env (v ∷ st)) le room (field_row key v p to [] env st s ∙ ap (λ k. Effects (FieldRead v key) true (at w k env st)) s.4)
+      typed_last w t (FieldRead v key) to env st c b (at w p env (v ∷ st)) (λ h. h) le room (field_row key v p to [] env st s ∙ ap (λ k. Effects (FieldRead v key) true (at w k env st)) s.4)
 
   length_last : (v : Value) (p to : ℕ) (env : Locals) (st : List Value) (c b : ℕ) → Standing w p (Plain ArrayLength ∷ []) to → 1 + b ≤ c → Room w 1 st → Going w (IsAt w to env st b) c (at w p env (v ∷ st)) (Works (Length v) (fits Number))
   length_last v p to env st c b s le room =
-      work_last w Number tt (Length v) to env st c b (at w p env (v ∷ st)) le room (at_row w ArrayLength p s.0 env (v ∷ st) s.1 ∙ ap (λ k. Effects (Length v) true (at w k env st)) s.2)
+      work_last w Number tt (Length v) to env st c b (at w p env (v ∷ st)) (λ h. h) le room (at_row w ArrayLength p s.0 env (v ∷ st) s.1 ∙ ap (λ k. Effects (Length v) true (at w k env st)) s.2)
 
   -- an array
   array_last : (elements : NamedElement) (v : Value) (p to : ℕ) (env : Locals) (st : List Value) (c b : ℕ) → Standing w p (make_array elements ∷ []) to → 1 + b ≤ c → Room w 1 st → Going w (IsAt w to env st b) c (at w p env (v ∷ st)) (Works (MakeArray elements v) (fits Reference))
   array_last IntElements v p to env st c b s le room =
-      work_last w Reference tt (MakeArray IntElements v) to env st c b (at w p env (v ∷ st)) le room (at_row w MakeNumbers p s.0 env (v ∷ st) s.1 ∙ ap (λ k. Effects (MakeArray IntElements v) true (at w k env st)) s.2)
+      work_last w Reference tt (MakeArray IntElements v) to env st c b (at w p env (v ∷ st)) (λ h. h) le room (at_row w MakeNumbers p s.0 env (v ∷ st) s.1 ∙ ap (λ k. Effects (MakeArray IntElements v) true (at w k env st)) s.2)
   array_last BooleanElements v p to env st c b s le room =
-      work_last w Reference tt (MakeArray BooleanElements v) to env st c b (at w p env (v ∷ st)) le room (at_row w MakeTruths p s.0 env (v ∷ st) s.1 ∙ ap (λ k. Effects (MakeArray BooleanElements v) true (at w k env st)) s.2)
+      work_last w Reference tt (MakeArray BooleanElements v) to env st c b (at w p env (v ∷ st)) (λ h. h) le room (at_row w MakeTruths p s.0 env (v ∷ st) s.1 ∙ ap (λ k. Effects (MakeArray BooleanElements v) true (at w k env st)) s.2)
   array_last (ClassElements class) v p to env st c b s le room =
-      work_last w Reference tt (MakeArray (ClassElements class) v) to env st c b (at w p env (v ∷ st)) le room
+      work_last w Reference tt (MakeArray (ClassElements class) v) to env st c b (at w p env (v ∷ st)) (λ h. h) le room
       (at_row w (OnConstant MakeReferences s.0) p s.1 env (v ∷ st) s.2 ∙ ap (λ (o : Option (List ℕ)). on_found o (λ name. Effects (MakeArray (ClassElements name) v) true (at w s.1 env st))) s.3
       ∙ ap (λ k. Effects (MakeArray (ClassElements class) v) true (at w k env st)) s.4)
 
@@ -237,7 +237,7 @@ module _ (w : Setting) where
   array_runs None m k h n =
       let c = k.codes n in
       plain_runs w c.value c.need c.next (λ env. then_do (m.value env) (λ v. Stuck)) (λ pc to env st b0 b s le room.
-      seq (run w) w.current w.more (IsAt w to env st b) (IsAt w to env st b) (λ v. Stuck) (λ v c f q. tt) (m.value env) b0 (at w pc env st) ((h.value n).value pc to env st b0 b s le room))
+      seq w (IsAt w to env st b) (IsAt w to env st b) (λ v. Stuck) (λ v c f q. λ held. tt) (m.value env) b0 (at w pc env st) ((h.value n).value pc to env st b0 b s le room))
   array_runs (Some elements) m k h n = work_runs m k h n (make_array elements) (λ v. MakeArray elements v) (fits Reference) (array_last elements)
 
   -- an element
@@ -248,7 +248,7 @@ module _ (w : Setting) where
       plain_runs w (c.value ++ (d.value ++ Plain (LoadElement kind) ∷ [])) (max c.need (1 + d.need)) d.next ((meant_step (form.Index m1 m2) t).value) (λ pc to env st b0 b s le room.
       operand w (IsAt w to env st b) c.value (d.value ++ Plain (LoadElement kind) ∷ []) c.need m1.value (λ a. then_do (m2.value env) (λ i. Works (GetElem kind a i) (typed t))) (h1.value n).value pc to env st b0 b s le (omega (arith, room)) (λ a p1 c1 na s1 le1.
       operand w (IsAt w to env st b) d.value (Plain (LoadElement kind) ∷ []) d.need m2.value (λ i. Works (GetElem kind a i) (typed t)) (h2.value c.next).value p1 to env (a ∷ st) c1 b s1 le1 (omega (arith, room, na.0)) (λ i p2 c2 ni s2 le2.
-      typed_last w t (GetElem kind a i) to env st c2 b (at w p2 env (i ∷ a ∷ st)) le2 na.1
+      typed_last w t (GetElem kind a i) to env st c2 b (at w p2 env (i ∷ a ∷ st)) (λ h. h) le2 na.1
       (at_row w (LoadElement kind) p2 s2.0 env (i ∷ a ∷ st) s2.1 ∙ ap (λ k. Effects (GetElem kind a i) true (at w k env st)) s2.2))))
 
   -- printing and reading
@@ -256,12 +256,12 @@ module _ (w : Setting) where
   print_last v p to env st c b s le = by_value v (at_row w (OnConstant InvokeStatic s.0) p s.1 env (v ∷ st) s.2 ∙ ap (λ (o : Option Key). on_found o (λ key. calls_static w.file key (at w s.1 env (v ∷ st)))) s.3 ∙ ap (λ k. shows_int v (at w k env st)) s.4) where
     by_value : (v : Value) → run w (at w p env (v ∷ st)) ≡ shows_int v (at w to env st) → Going w (IsVoid w to env st b) c (at w p env (v ∷ st)) (do_of (on_int Fine v) (λ n. Prints n (Gives Null)))
     by_value (Int n) e =
-        shows_on (run w) w.current w.more (IsVoid w to env st b) c (at w p env (Int n ∷ st)) (at w to env st) n (Gives Null) (omega (arith, le)) e
-        (stop (run w) w.current w.more (IsVoid w to env st b) (c - 1) (at w to env st) Null (omega (arith, le), refl, refl))
-    by_value (Long n) e = tt
-    by_value Null e = tt
-    by_value (Ref o) e = tt
-    by_value (Text t) e = tt
+        shows_on w (IsVoid w to env st b) c (at w p env (Int n ∷ st)) (at w to env st) n (Gives Null) (λ h. h) (omega (arith, le)) e
+        (stop w (IsVoid w to env st b) (c - 1) (at w to env st) Null (omega (arith, le), refl, refl))
+    by_value (Long n) e = λ held. tt
+    by_value Null e = λ held. tt
+    by_value (Ref o) e = λ held. tt
+    by_value (Text t) e = λ held. tt
 
   print_runs : (m : Meant) (k : Coded) → Sure m k → (t : Ty) (n : ℕ) → Runs w ((coded_step (form.Print k) t).codes n) ((meant_step (form.Print m) t).value)
   print_runs m k h t n =
@@ -275,28 +275,28 @@ module _ (w : Setting) where
       void_runs w (Uses PushConstant (TextOf text) ∷ io (codes "text") (codes "(Ljava/lang/String;)V") ∷ []) 1 n ((meant_step (form.Show text) t).value) (λ pc to env st b0 b s le room.
       let R : Value → ℕ → Frame → Type 0 = IsVoid w to env st b in
       let z = s.4 in
-      moves (run w) w.current w.more R b0 (at w pc env st) (at w s.1 env (Text s.0 ∷ st)) (Shows text (Gives Null)) (omega (arith, le))
+      moves w R b0 (at w pc env st) (at w s.1 env (Text s.0 ∷ st)) (Shows text (Gives Null)) (λ h. h) (omega (arith, le))
       (at_row w (OnConstant PushConstant s.0) pc s.1 env st s.2
       ∙ ap (λ (o : Option Const). on_found (option_and_then (constant_value w.file s.0) o) (λ v. pushed v (at w s.1 env st))) s.3.1
       ∙ ap (λ (o : Option (List ℕ)). on_found (option_map (λ bytes. Text s.0) o) (λ v. pushed v (at w s.1 env st))) s.3.2
       ∙ push_row w (Text s.0) s.1 env st refl room)
-      (texts_on (run w) w.current w.more R (b0 - 1) (at w s.1 env (Text s.0 ∷ st)) (at w to env st) text (Gives Null) (omega (arith, le))
+      (texts_on w R (b0 - 1) (at w s.1 env (Text s.0 ∷ st)) (at w to env st) text (Gives Null) (λ h. h) (omega (arith, le))
       (at_row w (OnConstant InvokeStatic z.0) s.1 z.1 env (Text s.0 ∷ st) z.2
       ∙ ap (λ (o : Option Key). on_found o (λ key. calls_static w.file key (at w z.1 env (Text s.0 ∷ st)))) z.3
       ∙ ap (λ (o : Option Const). on_found (option_and_then (utf8_at w.file) (option_and_then string_in o)) (λ bytes. ShowsText bytes (at w z.1 env st))) s.3.1
       ∙ ap (λ (o : Option (List ℕ)). on_found o (λ bytes. ShowsText bytes (at w z.1 env st))) s.3.2
       ∙ ap (λ k. ShowsText text (at w k env st)) z.4)
-      (stop (run w) w.current w.more R (b0 - 1 - 1) (at w to env st) Null (omega (arith, le), refl, refl))))
+      (stop w R (b0 - 1 - 1) (at w to env st) Null (omega (arith, le), refl, refl))))
 
   read_runs : (t : Ty) (n : ℕ) → Runs w ((coded_step form.Read t).codes n) ((meant_step form.Read t).value)
   read_runs t n =
       plain_runs w (io (codes "read") (codes "()I") ∷ []) 1 n ((meant_step form.Read t).value) (λ pc to env st b0 b s le room.
-      asks_on (run w) w.current w.more (IsAt w to env st b) b0 (at w pc env st) (at w to env st) (λ i. Gives (Int i)) (omega (arith, le))
+      asks_on w (IsAt w to env st b) b0 (at w pc env st) (at w to env st) (λ i. Gives (Int i)) (λ h. h) (omega (arith, le))
       (at_row w (OnConstant InvokeStatic s.0) pc s.1 env st s.2
       ∙ ap (λ (o : Option Key). on_found o (λ key. calls_static w.file key (at w s.1 env st))) s.3
       ∙ ap (λ x. where_row x (Asks (at w s.1 env st))) (has_push w (Int (pos 0)) s.1 env st refl room)
       ∙ ap (λ k. Asks (at w k env st)) s.4)
-      (λ i. stop (run w) w.current w.more (IsAt w to env st b) (b0 - 1) (at w to env (Int i ∷ st)) (Int i) (omega (arith, le), refl, (refl, room))))
+      (λ i. stop w (IsAt w to env st b) (b0 - 1) (at w to env (Int i ∷ st)) (Int i) (omega (arith, le), refl, (refl, room))))
 
   -- what is known of an expression, and of a kind of one
   abbrev kind_meant : TypedKind → Ty → Meant
@@ -312,13 +312,13 @@ module _ (w : Setting) where
   SureExpr = (e : TypedExpr) × Sure (meant e) (coded e)
 
   row_fills : (es : List SureExpr) (n : ℕ) → Fills w (row_codes (map coded (map (λ e. e.0) es)) n).items (row_codes (map coded (map (λ e. e.0) es)) n).need (values_of (map meant (map (λ e. e.0) es)))
-  row_fills [] n pc to env st b0 b s le room = stop (run w) w.current w.more (AreAt w to env st b) b0 (at w pc env st) [] (omega (arith, le), ap (λ k. at w k env st) s)
+  row_fills [] n pc to env st b0 b s le room = stop w (AreAt w to env st b) b0 (at w pc env st) [] (omega (arith, le), ap (λ k. at w k env st) s)
   row_fills (e ∷ es) n pc to env st b0 b s le room =
       let c = (coded e.0).codes n in
       let r = row_codes (map coded (map (λ e. e.0) es)) c.next in
       let R : List Value → ℕ → Frame → Type 0 = AreAt w to env st b in
       operand w R c.value r.items c.need (meant e.0).value (λ v. then_do (values_of (map meant (map (λ e. e.0) es)) env) (λ vs. Gives (v ∷ vs))) (e.1.value n).value pc to env st b0 b s le (omega (arith, room)) (λ v m1 c1 nv s1 le1.
-      seq (run w) w.current w.more (AreAt w to env (v ∷ st) b) R (λ vs. Gives (v ∷ vs)) (λ vs c2 f q. stop (run w) w.current w.more R c2 f (v ∷ vs) q)
+      seq w (AreAt w to env (v ∷ st) b) R (λ vs. Gives (v ∷ vs)) (λ vs c2 f q. stop w R c2 f (v ∷ vs) q)
       (values_of (map meant (map (λ e. e.0) es)) env) c1 (at w m1 env (v ∷ st)) (row_fills es c.next m1 to env (v ∷ st) c1 b s1 le1 (omega (arith, room, nv.0))))
 
   static_runs : (es : List SureExpr) (class name : List ℕ) (params : List Ty) (t : Ty) (n : ℕ) → Runs w ((coded_step (form.CallStatic class name params (map coded (map (λ e. e.0) es))) t).codes n) ((meant_step (form.CallStatic class name params (map meant (map (λ e. e.0) es))) t).value)
@@ -356,14 +356,10 @@ module _ (w : Setting) where
       let last : List Item = Uses InvokeSpecial (family m params t) ∷ [] in
       called_runs w o (Plain (Load Reference 0) ∷ (r.items ++ last)) (1 + r.need) r.next ((meant_step (form.CallSuper class name params (map meant (map (λ e. e.0) es))) t).value) (λ pc to env st b0 b s le room.
       let all : Room w (1 + r.need) st = omega (arith, room, need_le w o (1 + r.need)) in
-      operand w (Came w o to env st b) (Plain (Load Reference 0) ∷ []) (r.items ++ last) 1 (local_value 0 Reference) _ this_pushes pc to env st b0 b s le (omega (arith, all)) (λ v p1 c1 nv s1 le1.
-      args_then w (Came w o to env st b) r.items last r.need (values_of (map meant (map (λ e. e.0) es))) _ (row_fills es n) p1 to env (v ∷ st) c1 b s1 le1 (omega (arith, all, nv.0)) (λ vs p2 c2 s2 le2.
-      super_last w m params t v vs (1 + r.need) p2 to env st c2 b s2 le2 room)))
-
-  object_pushes : (class : List ℕ) → Pushes w (Uses MakeObject (ClassOf class) ∷ []) 1 (λ env. Works (ObjectMade class) (fits Reference))
-  object_pushes class pc to env st b0 b s le room =
-      work_last w Reference tt (ObjectMade class) to env st b0 b (at w pc env st) le room
-      (at_row w (OnConstant MakeObject s.0) pc s.1 env st s.2 ∙ ap (λ (o : Option (List ℕ)). on_found o (λ name. Effects (ObjectMade name) true (at w s.1 env st))) s.3 ∙ ap (λ k. Effects (ObjectMade class) true (at w k env st)) s.4)
+      let received = family_received w w.received (parted w r.items last s.0 to s.2).back.5 in
+      receiver_then w (Came w o to env st b) (r.items ++ last) (λ v. then_do (values_of (map meant (map (λ e. e.0) es)) env) (λ vs. where_so (are_of params vs) (then_do (calls_on (OfSuperclass m) v vs) (fit o)))) received pc to env st b0 b s le (omega (arith, all)) (λ p1 c1 s1 le1.
+      args_then w (Came w o to env st b) r.items last r.need (values_of (map meant (map (λ e. e.0) es))) (λ vs. where_so (are_of params vs) (then_do (calls_on (OfSuperclass m) (Ref w.receiver) vs) (fit o))) (row_fills es n) p1 to env (Ref w.receiver ∷ st) c1 b s1 le1 (omega (arith, all)) (λ vs p2 c2 s2 le2.
+      super_last w m params t w.receiver vs (1 + r.need) p2 to env st c2 b s2 le2 room)))
 
   new_runs : (es : List SureExpr) (class : List ℕ) (params : List Ty) (t : Ty) (n : ℕ) → Runs w ((coded_step (form.New class params (map coded (map (λ e. e.0) es))) t).codes n) ((meant_step (form.New class params (map meant (map (λ e. e.0) es))) t).value)
   new_runs es class params t n =
@@ -372,23 +368,24 @@ module _ (w : Setting) where
       let make : Item = Uses MakeObject (ClassOf (internal_name class)) in
       plain_runs w (make ∷ Plain Dup ∷ (r.items ++ last)) (2 + r.need) r.next ((meant_step (form.New class params (map meant (map (λ e. e.0) es))) t).value) (λ pc to env st b0 b s le room.
       let R : Value → ℕ → Frame → Type 0 = IsAt w to env st b in
-      operand w R (make ∷ []) (Plain Dup ∷ (r.items ++ last)) 1 (λ env. Works (ObjectMade (internal_name class)) (fits Reference)) (λ o. then_do (values_of (map meant (map (λ e. e.0) es)) env) (λ vs. then_do (construct class params o vs) (λ done. Gives o))) (object_pushes (internal_name class)) pc to env st b0 b s le (omega (arith, room)) (λ o p1 c1 no s1 le1.
-      moves (run w) w.current w.more R c1 (at w p1 env (o ∷ st)) (at w s1.0 env (o ∷ o ∷ st)) (then_do (values_of (map meant (map (λ e. e.0) es)) env) (λ vs. then_do (construct class params o vs) (λ done. Gives o))) (omega (arith, le1))
-      (at_row w Dup p1 s1.0 env (o ∷ st) s1.1 ∙ dup_row w o s1.0 env st no.0 (omega (arith, room)))
-      (args_then w R r.items last r.need (values_of (map meant (map (λ e. e.0) es))) (λ vs. then_do (construct class params o vs) (λ done. Gives o)) (row_fills es n) s1.0 to env (o ∷ o ∷ st) (c1 - 1) b s1.2 (omega (arith, le1)) (omega (arith, room, no.0)) (λ vs p2 c2 s2 le2.
-      seq (run w) w.current w.more (IsOver w to env (o ∷ st) b) R (λ done. Gives o) (λ v c f q. stop (run w) w.current w.more R c f o (q.0, q.1, no))
-      (construct class params o vs) c2 (at w p2 env (all_on vs (o ∷ o ∷ st))) (construct_last w class params o vs p2 to env (o ∷ st) c2 b s2 le2)))))
+      let behind : Value → Does Value = λ o. then_do (values_of (map meant (map (λ e. e.0) es)) env) (λ vs. then_do (construct class params o vs) (λ done. Gives o)) in
+      made_then w R (internal_name class) (Plain Dup ∷ (r.items ++ last)) behind pc to env st b0 b s le (omega (arith, room)) (λ o p1 c1 s1 le1.
+      moves w R c1 (at w p1 env (Ref o ∷ st)) (at w s1.0 env (Ref o ∷ Ref o ∷ st)) (behind (Ref o)) (λ h. h) (omega (arith, le1))
+      (at_row w Dup p1 s1.0 env (Ref o ∷ st) s1.1 ∙ dup_row w (Ref o) s1.0 env st refl (omega (arith, room)))
+      (args_then w R r.items last r.need (values_of (map meant (map (λ e. e.0) es))) (λ vs. then_do (construct class params (Ref o) vs) (λ done. Gives (Ref o))) (row_fills es n) s1.0 to env (Ref o ∷ Ref o ∷ st) (c1 - 1) b s1.2 (omega (arith, le1)) (omega (arith, room)) (λ vs p2 c2 s2 le2.
+      seq w (IsOver w to env (Ref o ∷ st) b) R (λ done. Gives (Ref o)) (λ v c f q. stop w R c f (Ref o) (q.0, q.1, (refl, omega (arith, room))))
+      (construct class params (Ref o) vs) c2 (at w p2 env (all_on vs (Ref o ∷ Ref o ∷ st))) (construct_last w class params o vs p2 to env (Ref o ∷ st) c2 b s2 le2)))))
 
   -- the parts of what is assigned to
   local_spots : (o : Option Kind) → IsShortIf o → (slot n : ℕ) → Spots (local_spot o slot n) (λ env. found o (λ kind. Gives (Slot slot kind)))
-  local_spots None short slot n pc to env st b0 b s le room = tt
+  local_spots None short slot n pc to env st b0 b s le room = λ held. tt
   local_spots (Some kind) short slot n pc to env st b0 b s le room =
-      stop (run w) w.current w.more (IsSpot (LocalAt slot kind) to env st b) b0 (at w pc env st) (Slot slot kind) (omega (arith, le), ap (λ k. at w k env st) s, (refl, short))
+      stop w (IsSpot (LocalAt slot kind) to env st b) b0 (at w pc env st) (Slot slot kind) (omega (arith, le), ap (λ k. at w k env st) s, (refl, short))
 
   field_spots : (m : Meant) (k : Coded) → Sure m k → (key : Key) (n : ℕ) → let c = k.codes n in Spots (record { items = c.value; next = c.next; need = c.need; place = FieldAt key }) (λ env. then_do (m.value env) (λ o. Gives (FieldOf o key)))
   field_spots m k h key n pc to env st b0 b s le room =
-      seq (run w) w.current w.more (IsAt w to env st b) (IsSpot (FieldAt key) to env st b) (λ o. Gives (FieldOf o key))
-      (λ o c f q. stop (run w) w.current w.more (IsSpot (FieldAt key) to env st b) c f (FieldOf o key) (q.0, q.1, (refl, q.2.0)))
+      seq w (IsAt w to env st b) (IsSpot (FieldAt key) to env st b) (λ o. Gives (FieldOf o key))
+      (λ o c f q. stop w (IsSpot (FieldAt key) to env st b) c f (FieldOf o key) (q.0, q.1, (refl, q.2.0)))
       (m.value env) b0 (at w pc env st) ((h.value n).value pc to env st b0 b s le room)
 
   index_spots : (m1 m2 : Meant) (k1 k2 : Coded) → Sure m1 k1 → Sure m2 k2 → (t : Ty) (n : ℕ) → Spots ((coded_step (form.Index k1 k2) t).spot n) ((meant_step (form.Index m1 m2) t).spot)
@@ -397,7 +394,7 @@ module _ (w : Setting) where
       let kind = element_kind_of t in
       let R : Spot → ℕ → Frame → Type 0 = IsSpot (ElementAt kind) to env st b in
       operand w R c.value d.value c.need m1.value (λ a. then_do (m2.value env) (λ i. Gives (ElementOf kind a i))) (h1.value n).value pc to env st b0 b s le (omega (arith, room)) (λ a p1 c1 na s1 le1.
-      seq (run w) w.current w.more (IsAt w to env (a ∷ st) b) R (λ i. Gives (ElementOf kind a i)) (λ i c f q. stop (run w) w.current w.more R c f (ElementOf kind a i) (q.0, q.1, (refl, na.0, q.2.0)))
+      seq w (IsAt w to env (a ∷ st) b) R (λ i. Gives (ElementOf kind a i)) (λ i c f q. stop w R c f (ElementOf kind a i) (q.0, q.1, (refl, na.0, q.2.0)))
       (m2.value env) c1 (at w p1 env (a ∷ st)) ((h2.value c.next).value p1 to env (a ∷ st) c1 b s1 le1 (omega (arith, room, na.0))))
 
   -- a number that is 0
@@ -414,34 +411,34 @@ module _ (w : Setting) where
     same = refl;
     known = number_known value;
     value = λ n. plain_runs w (push_int (int_wrap w32 (pos value)) ∷ []) 1 n (λ env. Gives (Int (int_wrap w32 (pos value)))) (λ pc to env st b0 b s le room. int_last (int_wrap w32 (pos value)) pc to env st b0 b s le room);
-    spot = λ n pc to env st b0 b s le room. tt;
+    spot = λ n pc to env st b0 b s le room. λ held. tt;
   }
   layer (form.Truth true) t = record {
     same = refl;
     known = tt;
     value = λ n. plain_runs w (Plain (PushInt (pos 1)) ∷ []) 1 n (λ env. Gives (Int (pos 1))) (λ pc to env st b0 b s le room.
-        push_last w (Int (pos 1)) to env st b0 b (at w pc env st) le refl room (at_row w (PushInt (pos 1)) pc s.0 env st s.1 ∙ ap (λ k. pushed (Int (pos 1)) (at w k env st)) s.2));
-    spot = λ n pc to env st b0 b s le room. tt;
+        push_last w (Int (pos 1)) to env st b0 b (at w pc env st) (λ h. h) le refl room (at_row w (PushInt (pos 1)) pc s.0 env st s.1 ∙ ap (λ k. pushed (Int (pos 1)) (at w k env st)) s.2));
+    spot = λ n pc to env st b0 b s le room. λ held. tt;
   }
   layer (form.Truth false) t = record {
     same = refl;
     known = tt;
     value = λ n. plain_runs w (Plain (PushInt (pos 0)) ∷ []) 1 n (λ env. Gives (Int (pos 0))) (λ pc to env st b0 b s le room.
-        push_last w (Int (pos 0)) to env st b0 b (at w pc env st) le refl room (at_row w (PushInt (pos 0)) pc s.0 env st s.1 ∙ ap (λ k. pushed (Int (pos 0)) (at w k env st)) s.2));
-    spot = λ n pc to env st b0 b s le room. tt;
+        push_last w (Int (pos 0)) to env st b0 b (at w pc env st) (λ h. h) le refl room (at_row w (PushInt (pos 0)) pc s.0 env st s.1 ∙ ap (λ k. pushed (Int (pos 0)) (at w k env st)) s.2));
+    spot = λ n pc to env st b0 b s le room. λ held. tt;
   }
   layer form.Null t = record {
     same = refl;
     known = λ env. refl;
     value = λ n. plain_runs w (Plain PushNull ∷ []) 1 n (λ env. Gives Null) (λ pc to env st b0 b s le room.
-        push_last w Null to env st b0 b (at w pc env st) le refl room (at_row w PushNull pc s.0 env st s.1 ∙ ap (λ k. pushed Null (at w k env st)) s.2));
-    spot = λ n pc to env st b0 b s le room. tt;
+        push_last w Null to env st b0 b (at w pc env st) (λ h. h) le refl room (at_row w PushNull pc s.0 env st s.1 ∙ ap (λ k. pushed Null (at w k env st)) s.2));
+    spot = λ n pc to env st b0 b s le room. λ held. tt;
   }
   layer form.This t = record {
     same = refl;
     known = tt;
     value = λ n. plain_runs w (Plain (Load Reference 0) ∷ []) 1 n (local_value 0 Reference) this_pushes;
-    spot = λ n pc to env st b0 b s le room. tt;
+    spot = λ n pc to env st b0 b s le room. λ held. tt;
   }
   layer (form.Local slot) t = record {
     same = refl;
@@ -453,31 +450,31 @@ module _ (w : Setting) where
     same = refl;
     known = tt;
     value = λ n. prefix_runs (prefix_of sign) (meant right.0) (coded right.0) right.1 n;
-    spot = λ n pc to env st b0 b s le room. tt;
+    spot = λ n pc to env st b0 b s le room. λ held. tt;
   }
   layer (form.Binary sign left right) t = record {
     same = refl;
     known = tt;
     value = λ n. infix_runs (infix_of sign) (meant left.0) (meant right.0) (coded left.0) (coded right.0) left.1 right.1 n;
-    spot = λ n pc to env st b0 b s le room. tt;
+    spot = λ n pc to env st b0 b s le room. λ held. tt;
   }
   layer (form.Cond test first second) t = record {
     same = refl;
     known = tt;
     value = λ n. cond_runs (meant test.0) (meant first.0) (meant second.0) (coded test.0) (coded first.0) (coded second.0) test.1 first.1 second.1 t n;
-    spot = λ n pc to env st b0 b s le room. tt;
+    spot = λ n pc to env st b0 b s le room. λ held. tt;
   }
   layer (form.Cast class value) t = record {
     same = refl;
     known = tt;
     value = λ n. work_runs (meant value.0) (coded value.0) value.1 n (Uses CheckCast (ClassOf (internal_name class))) (λ v. Cast v (internal_name class)) (fits Reference) (cast_last (internal_name class));
-    spot = λ n pc to env st b0 b s le room. tt;
+    spot = λ n pc to env st b0 b s le room. λ held. tt;
   }
   layer (form.InstanceOf value class) t = record {
     same = refl;
     known = tt;
     value = λ n. work_runs (meant value.0) (coded value.0) value.1 n (Uses InstanceOf (ClassOf (internal_name class))) (λ v. InstanceTest v (internal_name class)) (fits Number) (instance_last (internal_name class));
-    spot = λ n pc to env st b0 b s le room. tt;
+    spot = λ n pc to env st b0 b s le room. λ held. tt;
   }
   layer (form.Field object class name) t = record {
     same = refl;
@@ -489,14 +486,14 @@ module _ (w : Setting) where
     same = refl;
     known = tt;
     value = λ n. plain_runs w (Uses GetStatic (item.FieldOf (key_of class name t)) ∷ []) 1 n (λ env. Works (StaticRead (key_of class name t)) (typed t)) (λ pc to env st b0 b s le room.
-        typed_last w t (StaticRead (key_of class name t)) to env st b0 b (at w pc env st) le room (static_field_row (key_of class name t) pc to [] env st s ∙ ap (λ k. Effects (StaticRead (key_of class name t)) true (at w k env st)) s.4));
-    spot = λ n pc to env st b0 b s le room. stop (run w) w.current w.more (IsSpot (code.StaticAt (key_of class name t)) to env st b) b0 (at w pc env st) (StaticAt (key_of class name t)) (omega (arith, le), ap (λ k. at w k env st) s, refl);
+        typed_last w t (StaticRead (key_of class name t)) to env st b0 b (at w pc env st) (λ h. h) le room (static_field_row (key_of class name t) pc to [] env st s ∙ ap (λ k. Effects (StaticRead (key_of class name t)) true (at w k env st)) s.4));
+    spot = λ n pc to env st b0 b s le room. stop w (IsSpot (code.StaticAt (key_of class name t)) to env st b) b0 (at w pc env st) (StaticAt (key_of class name t)) (omega (arith, le), ap (λ k. at w k env st) s, refl);
   }
   layer (form.Length array) t = record {
     same = refl;
     known = tt;
     value = λ n. work_runs (meant array.0) (coded array.0) array.1 n (Plain ArrayLength) (λ v. Length v) (fits Number) length_last;
-    spot = λ n pc to env st b0 b s le room. tt;
+    spot = λ n pc to env st b0 b s le room. λ held. tt;
   }
   layer (form.Index array index) t = record {
     same = refl;
@@ -508,49 +505,49 @@ module _ (w : Setting) where
     same = refl;
     known = tt;
     value = λ n. virtual_runs object args class is_interface name params t n;
-    spot = λ n pc to env st b0 b s le room. tt;
+    spot = λ n pc to env st b0 b s le room. λ held. tt;
   }
   layer (form.CallStatic class name params args) t = record {
     same = refl;
     known = tt;
     value = λ n. static_runs args class name params t n;
-    spot = λ n pc to env st b0 b s le room. tt;
+    spot = λ n pc to env st b0 b s le room. λ held. tt;
   }
   layer (form.CallSuper class name params args) t = record {
     same = refl;
     known = tt;
     value = λ n. super_runs args class name params t n;
-    spot = λ n pc to env st b0 b s le room. tt;
+    spot = λ n pc to env st b0 b s le room. λ held. tt;
   }
   layer (form.New class params args) t = record {
     same = refl;
     known = tt;
     value = λ n. new_runs args class params t n;
-    spot = λ n pc to env st b0 b s le room. tt;
+    spot = λ n pc to env st b0 b s le room. λ held. tt;
   }
   layer (form.NewArray elem size) t = record {
     same = refl;
     known = tt;
     value = λ n. array_runs (elements_of elem) (meant size.0) (coded size.0) size.1 n;
-    spot = λ n pc to env st b0 b s le room. tt;
+    spot = λ n pc to env st b0 b s le room. λ held. tt;
   }
   layer (form.Print value) t = record {
     same = refl;
     known = tt;
     value = λ n. print_runs (meant value.0) (coded value.0) value.1 t n;
-    spot = λ n pc to env st b0 b s le room. tt;
+    spot = λ n pc to env st b0 b s le room. λ held. tt;
   }
   layer (form.Show text) t = record {
     same = refl;
     known = tt;
     value = λ n. show_runs text t n;
-    spot = λ n pc to env st b0 b s le room. tt;
+    spot = λ n pc to env st b0 b s le room. λ held. tt;
   }
   layer form.Read t = record {
     same = refl;
     known = tt;
     value = λ n. read_runs t n;
-    spot = λ n pc to env st b0 b s le room. tt;
+    spot = λ n pc to env st b0 b s le room. λ held. tt;
   }
 
   with_both : {A B : Type 0} (Q : A → B → Type 0) (a c : A) (b d : B) → a ≡ c → b ≡ d → Q c d → Q a b

@@ -1,4 +1,5 @@
 pub mod Values
+pub mod Going
 pub mod Blocks
 pub mod Conditions
 pub mod Calls

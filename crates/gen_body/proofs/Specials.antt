@@ -1,6 +1,6 @@
 -- The code of calls of the superclass and of constructors does what they mean.
-use Rattle.std.proofs.Common.{◌≡◌, ℕ, zero, ◌+◌, ◌-◌, ◌≤◌, List, [], ◌∷◌, Option, Some, refl, sym, ap, ◌∙◌, subst, arith}
-use Rattle.std.specs.Prelude.{Bool, true, false, ◌||◌, cond, is_some, if◌then◌else◌, codes}
+use Rattle.std.proofs.Common.{◌≡◌, ℕ, suc, ◌+◌, ◌-◌, ◌≤◌, List, [], ◌∷◌, length, Option, Some, refl, sym, ap, ◌∙◌, subst, arith}
+use Rattle.std.specs.Prelude.{Bool, true, false, ◌||◌, cond, is_some, option_and_then, if◌then◌else◌, codes}
 use Rattle.std.specs.Option.{option_map}
 use Rattle.std.proofs.lemmas.Bool.{false≢true}
 use Rattle.class_form.specs.Constants.{class_name_at}
@@ -8,32 +8,54 @@ use Rattle.jp_pred.specs.declared.ty.Ty.{Ty}
 use Rattle.jp_pred.specs.declared.ty.Ty.TheVariants as ty
 use Rattle.jp_pred.specs.Names.{Word, object, same}
 use Rattle.jp_store.specs.declared.value.Value.{Value}
-use Rattle.jp_store.specs.declared.value.Value.TheVariants.{Int, Long, Null, Ref, Text}
+use Rattle.jp_store.specs.declared.value.Value.TheVariants.{Null, Ref}
 use Rattle.jp_store.specs.declared.value.Kind.TheVariants.{Reference}
-use Rattle.jp_store.specs.declared.value.TrapKind.TheVariants.{NullReference}
 use Rattle.jp_store.specs.Arith.{is_kind}
 use Rattle.jp_store.specs.Classes.{Key, object_name}
-use Rattle.jp_does.specs.Does.{Gives, Traps, do_of, then_do}
+use Rattle.jp_store.specs.Work.{MakeObject as ObjectMade}
+use Rattle.jp_does.specs.Does.{Gives, Works, then_do, found}
 use Rattle.jp_meaning.specs.Does as source
-use Rattle.jp_meaning.specs.Does.{Does, Method, receiver_of, calls_on}
+use Rattle.jp_meaning.specs.Does.{Does, Method, calls_on}
 use Rattle.jp_meaning.specs.Descriptors.{kind_of_type, constructor_of}
-use Rattle.jp_meaning.specs.Expressions.{Locals, fit, are_of, where_so, construct_object, construct}
+use Rattle.jp_meaning.specs.Expressions.{Locals, fits, local_value, fit, are_of, where_so, construct_object, construct}
 use Rattle.jvm_table.specs.declared.frame.Frame.{Frame}
-use Rattle.jvm_table.specs.declared.instr.Instr.TheVariants.{OnConstant}
-use Rattle.jvm_table.specs.declared.instr.ConstantUse.TheVariants.{InvokeSpecial}
+use Rattle.jvm_table.specs.declared.instr.Instr.TheVariants.{Load, OnConstant}
+use Rattle.jvm_table.specs.declared.instr.ConstantUse.TheVariants.{InvokeSpecial, MakeObject}
 use Rattle.jvm_table.specs.Descriptors.{signature_of}
-use Rattle.jvm_table.specs.Act.{Target, Moves, Invokes, Constructor, MethodAbove, on_found, on_pop, on_receiver, invoked, calls, calls_special, special_target, is_print, is_text, is_read, is_object_init, where_so as where_row}
-use Rattle.code_trace.specs.Entry.{is_on_null}
-use Rattle.code_trace.specs.Calls.{key_of_method}
-use Rattle.code_trace.specs.Follows.{IsTrap}
-use Rattle.code_trace.proofs.Follow.{stop, moves, calls_on as calling, fails}
-use Rattle.code_asm.specs.Items.{Item, Uses, BuiltIn}
+use Rattle.jvm_table.specs.Act.{Target, Moves, Effects, Invokes, Constructor, MethodAbove, pushed, answered, on_found, on_pop, on_receiver, invoked, calls, calls_special, special_target, is_print, is_text, is_read, is_object_init, where_so as where_row}
+use Rattle.code_trace.specs.Calls.{key_of_method, call_in}
+use Rattle.code_trace.specs.Follows.{Onward, Follows}
+use Rattle.code_asm.specs.Items.{ClassOf, BuiltIn, Item, Plain, Uses}
 use Rattle.gen_body.specs.Codes.{signature_for, named, family, construction}
 use Rattle.gen_body.proofs.Values.{types_short, neither}
-use Rattle.gen_body.proofs.Blocks.{Setting, all_on, run, at, Standing, Going, Room, at_row, IsOver}
+use Rattle.gen_body.proofs.Going.{Setting, run, at, Standing, Held_still, Going, stop, moves, works_on, lost, calls_on as calling}
+use Rattle.gen_body.proofs.Blocks.{all_on, Room, at_row, push_row, answer_row, IsOver}
 use Rattle.gen_body.proofs.Calls.{invoked_row, Came, needed, answer_fits, by_so}
 
 module _ (w : Setting) where
+  -- the receiver on the stack, and what follows
+  pub receiver_then : {B : Type 0} (R : B → ℕ → Frame → Type 0) (rest : List Item) (go : Value → Does B) → w.received ≡ true → (pc to : ℕ) (env : Locals) (st : List Value) (b0 b : ℕ) → Standing w pc (Plain (Load Reference 0) ∷ rest) to → suc (length rest) + b ≤ b0 → Room w 1 st →
+      ((m c : ℕ) → Standing w m rest to → length rest + b ≤ c → Going w R c (at w m env (Ref w.receiver ∷ st)) (go (Ref w.receiver))) → Going w R b0 (at w pc env st) (then_do (local_value 0 Reference env) go)
+  receiver_then R rest go received pc to env st b0 b s le room k held =
+      let here = held received in
+      let is : local_value 0 Reference env ≡ Gives (Ref w.receiver) = ap (λ (o : Option (Option Value)). found (option_and_then (λ v. v) o) (fits Reference)) here in
+      subst (λ (d : Does Value). Follows (run w) w.current w.more (Held_still w R) b0 (at w pc env st) (then_do d go)) (sym is)
+      (moves w R b0 (at w pc env st) (at w s.0 env (Ref w.receiver ∷ st)) (go (Ref w.receiver)) (λ h. h) (omega (arith, le))
+      (at_row w (Load Reference 0) pc s.0 env st s.1
+      ∙ ap (λ (o : Option (Option Value)). on_found (option_and_then (λ v. v) o) (λ v. where_row (is_kind Reference v) (pushed v (at w s.0 env st)))) here
+      ∙ push_row w (Ref w.receiver) s.0 env st refl room)
+      (k s.0 (b0 - 1) s.2 (omega (arith, le))) held)
+
+  -- a new object on the stack, and what follows
+  pub made_then : {B : Type 0} (R : B → ℕ → Frame → Type 0) (class : List ℕ) (rest : List Item) (go : Value → Does B) (pc to : ℕ) (env : Locals) (st : List Value) (b0 b : ℕ) → Standing w pc (Uses MakeObject (ClassOf class) ∷ rest) to → suc (length rest) + b ≤ b0 → Room w 1 st →
+      ((r m c : ℕ) → Standing w m rest to → length rest + b ≤ c → Going w R c (at w m env (Ref r ∷ st)) (go (Ref r))) → Going w R b0 (at w pc env st) (then_do (Works (ObjectMade class) (fits Reference)) go)
+  made_then R class rest go pc to env st b0 b s le room k =
+      works_on w R b0 (at w pc env st) (at w s.1 env st) (ObjectMade class) true (λ v. then_do (fits Reference v) go) (λ h. h) (omega (arith, le))
+      (at_row w (OnConstant MakeObject s.0) pc s.1 env st s.2 ∙ ap (λ (o : Option (List ℕ)). on_found o (λ name. Effects (ObjectMade name) true (at w s.1 env st))) s.3)
+      (λ v may. subst (λ (v : Value). Onward (answered true v (at w s.1 env st)) (then_do (fits Reference v) go) (λ g. Going w R (b0 - 1) g (then_do (fits Reference v) go))) (sym may.1)
+      (subst (λ (o : Option Frame). Onward o (go (Ref may.0)) (λ g. Going w R (b0 - 1) g (go (Ref may.0)))) (sym (answer_row w (Ref may.0) s.1 env st refl room))
+      (k may.0 s.1 (b0 - 1) s.4 (omega (arith, le)))))
+
   -- a call that doesn't look at the receiver's class
   special_acts : (key : Key) (target : Target) (params : List Ty) (t : Ty) (o : Value) (vs st : List Value) (k : ℕ) (env : Locals) → is_object_init key ≡ false → special_target w.file key ≡ Some target → signature_of key.descriptor ≡ Some (signature_for params t) → are_of params vs ≡ true →
       calls_special w.file key (at w k env (all_on vs (o ∷ st))) ≡ where_row (is_kind Reference o) (Invokes (record { target = target; args = o ∷ vs }) (is_some (kind_of_type t)) (at w k env st))
@@ -66,60 +88,41 @@ module _ (w : Setting) where
       ∙ ap (λ (x : Option Key). on_found x (λ key. calls_special w.file key f)) s.3.0
       ∙ special_acts key (Constructor key) params ty.Void o vs st s.1 env (no_init key s.3.2) refl s.3.1 ok
 
-  -- a call on null
-  null_trap : {B : Type 0} (Q : B → ℕ → Frame → Type 0) (target : Target) (vs : List Value) (push : Bool) (on : Frame) (c : ℕ) (f : Frame) → is_on_null target (Null ∷ vs) ≡ true → 1 ≤ c → run w f ≡ Invokes (record { target = target; args = Null ∷ vs }) push on → Going w Q c f (Traps NullReference)
-  null_trap Q target vs push on c f n le e = (c - 1, f, record { count = zero; steps = refl; paid = omega (arith, le) }, subst (IsTrap NullReference) (sym e) (n, refl))
-
-  pub super_last : (m : Method) (params : List Ty) (t : Ty) (o : Value) (vs : List Value) (need : ℕ) (pc to : ℕ) (env : Locals) (st : List Value) (c b : ℕ) → Standing w pc (Uses InvokeSpecial (family m params t) ∷ []) to → 1 + b ≤ c → Room w (needed w (kind_of_type t) need) st → Going w (Came w (kind_of_type t) to env st b) c (at w pc env (all_on vs (o ∷ st))) (where_so (are_of params vs) (then_do (calls_on (source.OfSuperclass m) o vs) (fit (kind_of_type t))))
-  super_last m params t o vs need pc to env st c b s le room =
+  -- a receiver is there
+  pub super_last : (m : Method) (params : List Ty) (t : Ty) (r : ℕ) (vs : List Value) (need : ℕ) (pc to : ℕ) (env : Locals) (st : List Value) (c b : ℕ) → Standing w pc (Uses InvokeSpecial (family m params t) ∷ []) to → 1 + b ≤ c → Room w (needed w (kind_of_type t) need) st → Going w (Came w (kind_of_type t) to env st b) c (at w pc env (all_on vs (Ref r ∷ st))) (where_so (are_of params vs) (then_do (calls_on (source.OfSuperclass m) (Ref r) vs) (fit (kind_of_type t))))
+  super_last m params t r vs need pc to env st c b s le room =
       let Q : Value → ℕ → Frame → Type 0 = Came w (kind_of_type t) to env st b in
-      by_so w Q (are_of params vs) c (at w pc env (all_on vs (o ∷ st))) (then_do (calls_on (source.OfSuperclass m) o vs) (fit (kind_of_type t))) (λ ok. by_receiver o (super_row m params t o vs st pc to [] env s ok
-      ∙ ap (λ k. where_row (is_kind Reference o) (Invokes (record { target = MethodAbove w.current m.name m.descriptor; args = o ∷ vs }) (is_some (kind_of_type t)) (at w k env st))) s.4)) where
-        by_receiver : (o : Value) → run w (at w pc env (all_on vs (o ∷ st))) ≡ where_row (is_kind Reference o) (Invokes (record { target = MethodAbove w.current m.name m.descriptor; args = o ∷ vs }) (is_some (kind_of_type t)) (at w to env st)) → Going w (Came w (kind_of_type t) to env st b) c (at w pc env (all_on vs (o ∷ st))) (then_do (calls_on (source.OfSuperclass m) o vs) (fit (kind_of_type t)))
-        by_receiver (Ref r) e =
-            calling (run w) w.current w.more (Came w (kind_of_type t) to env st b) c (at w pc env (all_on vs (Ref r ∷ st))) (at w to env st) (record { target = source.OfSuperclass m; args = Ref r ∷ vs }) (is_some (kind_of_type t)) (fit (kind_of_type t)) (omega (arith, le)) e refl
-            (λ v. answer_fits w (kind_of_type t) (types_short t) need v to env st (c - 1) b (omega (arith, le)) room)
-        by_receiver Null e = null_trap (Came w (kind_of_type t) to env st b) (MethodAbove w.current m.name m.descriptor) vs (is_some (kind_of_type t)) (at w to env st) c (at w pc env (all_on vs (Null ∷ st))) refl (omega (arith, le)) e
-        by_receiver (Int n) e = tt
-        by_receiver (Long n) e = tt
-        by_receiver (Text n) e = tt
+      let call : source.Call = record { target = source.OfSuperclass m; args = Ref r ∷ vs } in
+      by_so w Q (are_of params vs) c (at w pc env (all_on vs (Ref r ∷ st))) (then_do (calls_on (source.OfSuperclass m) (Ref r) vs) (fit (kind_of_type t))) (λ ok.
+      calling w Q c (at w pc env (all_on vs (Ref r ∷ st))) (at w to env st) call (is_some (kind_of_type t)) (fit (kind_of_type t)) (λ h. h) (omega (arith, le))
+      (super_row m params t (Ref r) vs st pc to [] env s ok ∙ ap (λ k. Invokes (call_in w.current call) (is_some (kind_of_type t)) (at w k env st)) s.4)
+      (λ v. answer_fits w (kind_of_type t) (types_short t) need v to env st (c - 1) b (omega (arith, le)) room))
 
   -- the constructor of Object
-  object_row : (o : Value) (st : List Value) (pc to : ℕ) (env : Locals) → Standing w pc (Uses InvokeSpecial (BuiltIn (record { class = object_name; name = codes "<init>"; descriptor = codes "()V" })) ∷ []) to → run w (at w pc env (o ∷ st)) ≡ on_receiver o (Moves (at w to env st))
-  object_row o st pc to env s =
-      at_row w (OnConstant InvokeSpecial s.0) pc s.1 env (o ∷ st) s.2
-      ∙ ap (λ (x : Option Key). on_found x (λ key. calls_special w.file key (at w s.1 env (o ∷ st)))) s.3
-      ∙ ap (λ k. on_receiver o (Moves (at w k env st))) s.4
+  object_row : (r : ℕ) (st : List Value) (pc to : ℕ) (env : Locals) → Standing w pc (Uses InvokeSpecial (BuiltIn (record { class = object_name; name = codes "<init>"; descriptor = codes "()V" })) ∷ []) to → run w (at w pc env (Ref r ∷ st)) ≡ Moves (at w to env st)
+  object_row r st pc to env s =
+      at_row w (OnConstant InvokeSpecial s.0) pc s.1 env (Ref r ∷ st) s.2
+      ∙ ap (λ (x : Option Key). on_found x (λ key. calls_special w.file key (at w s.1 env (Ref r ∷ st)))) s.3
+      ∙ ap (λ k. Moves (at w k env st)) s.4
 
-  object_last : (params : List Ty) (o : Value) (vs : List Value) (pc to : ℕ) (env : Locals) (st : List Value) (c b : ℕ) → Standing w pc (Uses InvokeSpecial (BuiltIn (record { class = object_name; name = codes "<init>"; descriptor = codes "()V" })) ∷ []) to → 1 + b ≤ c → are_of params vs ≡ true → Going w (IsOver w to env st b) c (at w pc env (all_on vs (o ∷ st))) (construct_object params o)
-  object_last (t ∷ ts) o vs pc to env st c b s le ok = tt
-  object_last [] o (v ∷ vs) pc to env st c b s le ok = absurd (false≢true ok)
-  object_last [] o [] pc to env st c b s le ok = by_receiver o (object_row o st pc to env s) where
-    by_receiver : (o : Value) → run w (at w pc env (o ∷ st)) ≡ on_receiver o (Moves (at w to env st)) → Going w (IsOver w to env st b) c (at w pc env (o ∷ st)) (do_of (receiver_of o) (λ r. Gives Null))
-    by_receiver (Ref r) e =
-        moves (run w) w.current w.more (IsOver w to env st b) c (at w pc env (Ref r ∷ st)) (at w to env st) (Gives Null) (omega (arith, le)) e
-        (stop (run w) w.current w.more (IsOver w to env st b) (c - 1) (at w to env st) Null (omega (arith, le), refl))
-    by_receiver Null e = fails (run w) w.current w.more (IsOver w to env st b) c (at w pc env (Null ∷ st)) NullReference (omega (arith, le)) e
-    by_receiver (Int n) e = tt
-    by_receiver (Long n) e = tt
-    by_receiver (Text n) e = tt
+  object_last : (params : List Ty) (r : ℕ) (vs : List Value) (pc to : ℕ) (env : Locals) (st : List Value) (c b : ℕ) → Standing w pc (Uses InvokeSpecial (BuiltIn (record { class = object_name; name = codes "<init>"; descriptor = codes "()V" })) ∷ []) to → 1 + b ≤ c → are_of params vs ≡ true → Going w (IsOver w to env st b) c (at w pc env (all_on vs (Ref r ∷ st))) (construct_object params (Ref r))
+  object_last (t ∷ ts) r vs pc to env st c b s le ok = lost w (IsOver w to env st b) c (at w pc env (all_on vs (Ref r ∷ st)))
+  object_last [] r (v ∷ vs) pc to env st c b s le ok = absurd (false≢true ok)
+  object_last [] r [] pc to env st c b s le ok =
+      moves w (IsOver w to env st b) c (at w pc env (Ref r ∷ st)) (at w to env st) (Gives Null) (λ h. h) (omega (arith, le)) (object_row r st pc to env s)
+      (stop w (IsOver w to env st b) (c - 1) (at w to env st) Null (omega (arith, le), refl))
 
-  other_last : (class : Word) (params : List Ty) (o : Value) (vs : List Value) (pc to : ℕ) (env : Locals) (st : List Value) (c b : ℕ) → Standing w pc (Uses InvokeSpecial (named (constructor_of class params) params ty.Void) ∷ []) to → 1 + b ≤ c → are_of params vs ≡ true → Going w (IsOver w to env st b) c (at w pc env (all_on vs (o ∷ st))) (calls_on (source.Constructor (constructor_of class params)) o vs)
-  other_last class params o vs pc to env st c b s le ok =
-      by_receiver o (construct_row class params o vs st pc to [] env s ok ∙ ap (λ k. where_row (is_kind Reference o) (Invokes (record { target = Constructor (key_of_method (constructor_of class params)); args = o ∷ vs }) false (at w k env st))) s.4) where
-        by_receiver : (o : Value) → run w (at w pc env (all_on vs (o ∷ st))) ≡ where_row (is_kind Reference o) (Invokes (record { target = Constructor (key_of_method (constructor_of class params)); args = o ∷ vs }) false (at w to env st)) → Going w (IsOver w to env st b) c (at w pc env (all_on vs (o ∷ st))) (calls_on (source.Constructor (constructor_of class params)) o vs)
-        by_receiver (Ref r) e =
-            calling (run w) w.current w.more (IsOver w to env st b) c (at w pc env (all_on vs (Ref r ∷ st))) (at w to env st) (record { target = source.Constructor (constructor_of class params); args = Ref r ∷ vs }) false Gives (omega (arith, le)) e refl
-            (λ v. stop (run w) w.current w.more (IsOver w to env st b) (c - 1) (at w to env st) v (omega (arith, le), refl))
-        by_receiver Null e = null_trap (IsOver w to env st b) (Constructor (key_of_method (constructor_of class params))) vs false (at w to env st) c (at w pc env (all_on vs (Null ∷ st))) refl (omega (arith, le)) e
-        by_receiver (Int n) e = tt
-        by_receiver (Long n) e = tt
-        by_receiver (Text n) e = tt
+  other_last : (class : Word) (params : List Ty) (r : ℕ) (vs : List Value) (pc to : ℕ) (env : Locals) (st : List Value) (c b : ℕ) → Standing w pc (Uses InvokeSpecial (named (constructor_of class params) params ty.Void) ∷ []) to → 1 + b ≤ c → are_of params vs ≡ true → Going w (IsOver w to env st b) c (at w pc env (all_on vs (Ref r ∷ st))) (calls_on (source.Constructor (constructor_of class params)) (Ref r) vs)
+  other_last class params r vs pc to env st c b s le ok =
+      let call : source.Call = record { target = source.Constructor (constructor_of class params); args = Ref r ∷ vs } in
+      calling w (IsOver w to env st b) c (at w pc env (all_on vs (Ref r ∷ st))) (at w to env st) call false Gives (λ h. h) (omega (arith, le))
+      (construct_row class params (Ref r) vs st pc to [] env s ok ∙ ap (λ k. Invokes (call_in w.current call) false (at w k env st)) s.4)
+      (λ v. stop w (IsOver w to env st b) (c - 1) (at w to env st) v (omega (arith, le), refl))
 
   -- a constructor's run
-  pub construct_last : (class : Word) (params : List Ty) (o : Value) (vs : List Value) (pc to : ℕ) (env : Locals) (st : List Value) (c b : ℕ) → Standing w pc (construction class params ∷ []) to → 1 + b ≤ c → Going w (IsOver w to env st b) c (at w pc env (all_on vs (o ∷ st))) (construct class params o vs)
-  construct_last class params o vs pc to env st c b s le = by_class (same class object) s where
+  pub construct_last : (class : Word) (params : List Ty) (r : ℕ) (vs : List Value) (pc to : ℕ) (env : Locals) (st : List Value) (c b : ℕ) → Standing w pc (construction class params ∷ []) to → 1 + b ≤ c → Going w (IsOver w to env st b) c (at w pc env (all_on vs (Ref r ∷ st))) (construct class params (Ref r) vs)
+  construct_last class params r vs pc to env st c b s le = by_class (same class object) s where
     by_class : (x : Bool) → Standing w pc (Uses InvokeSpecial (cond x (BuiltIn (record { class = object_name; name = codes "<init>"; descriptor = codes "()V" })) (named (constructor_of class params) params ty.Void)) ∷ []) to →
-        Going w (IsOver w to env st b) c (at w pc env (all_on vs (o ∷ st))) (where_so (are_of params vs) (cond x (construct_object params o) (calls_on (source.Constructor (constructor_of class params)) o vs)))
-    by_class true s = by_so w (IsOver w to env st b) (are_of params vs) c (at w pc env (all_on vs (o ∷ st))) (construct_object params o) (λ ok. object_last params o vs pc to env st c b s le ok)
-    by_class false s = by_so w (IsOver w to env st b) (are_of params vs) c (at w pc env (all_on vs (o ∷ st))) (calls_on (source.Constructor (constructor_of class params)) o vs) (λ ok. other_last class params o vs pc to env st c b s le ok)
+        Going w (IsOver w to env st b) c (at w pc env (all_on vs (Ref r ∷ st))) (where_so (are_of params vs) (cond x (construct_object params (Ref r)) (calls_on (source.Constructor (constructor_of class params)) (Ref r) vs)))
+    by_class true s = by_so w (IsOver w to env st b) (are_of params vs) c (at w pc env (all_on vs (Ref r ∷ st))) (construct_object params (Ref r)) (λ ok. object_last params r vs pc to env st c b s le ok)
+    by_class false s = by_so w (IsOver w to env st b) (are_of params vs) c (at w pc env (all_on vs (Ref r ∷ st))) (calls_on (source.Constructor (constructor_of class params)) (Ref r) vs) (λ ok. other_last class params r vs pc to env st c b s le ok)

@@ -1,5 +1,6 @@
 -- The code of a member has the member's open traces.
-use Rattle.std.specs.Prelude.{◌≡◌, ℕ, ◌+◌, ◌≤◌, length, Option, Some, None, slice_get}
+use Rattle.std.specs.Prelude.{◌≡◌, ℕ, ◌+◌, ◌≤◌, length, Bool, true, false, not, ◌||◌, ◌==◌, Option, Some, None, slice_get}
+use Rattle.std.specs.List.{list_all}
 use Rattle.std.specs.Option.{option_map_or}
 use Rattle.class_form.specs.declared.class_file.ClassFile.{ClassFile}
 use Rattle.class_form.specs.declared.member.MemberInfo.{MemberInfo}
@@ -12,9 +13,12 @@ use Rattle.jp_meaning.specs.declared.unit.TypedMember.{TypedMember}
 use Rattle.jp_meaning.specs.declared.unit.TypedPart.{TypedPart}
 use Rattle.jp_meaning.specs.declared.unit.TypedPart.TheVariants as part
 use Rattle.jp_meaning.specs.Descriptors.{internal_name, kind_of_type}
+use Rattle.jvm_table.specs.declared.instr.Instr.{Instr}
+use Rattle.jvm_table.specs.declared.instr.Instr.TheVariants.{Store, Increase}
 use Rattle.jvm_table.specs.Act.{result_kind}
+use Rattle.code_trace.specs.Given.{has_receiver}
 use Rattle.code_trace.specs.OpenTraces.{HasOpenTraces}
-use Rattle.code_asm.specs.Items.{Stands}
+use Rattle.code_asm.specs.Items.{Wanted, FamilyOf, Item, Plain, Uses, CallsInterface, Branch, Mark, Stands}
 use Rattle.gen_body.specs.Members.{given_to, member_code}
 
 -- what kind of value a member returns
@@ -42,8 +46,32 @@ pub record IsCodeOf (hier : Hier) (head : Iface) (m : TypedMember) (file : Class
   pub locals : code.max_locals ≡ m.locals
   pub slots : slots_of head m.part ≤ m.locals
 
+-- the local in which an instruction stores, if it does
+abbrev pub stores_in : Instr → Option ℕ
+stores_in (Store kind slot) = Some slot
+stores_in (Increase slot by) = Some slot
+stores_in _ = None
+
+-- whether a method is called that is found above the class
+abbrev pub is_family : Wanted → Bool
+is_family (FamilyOf key signature) = true
+is_family _ = false
+
+-- Whether an item of a member leaves its receiver alone, which is in local 0. One without a receiver calls no method that is
+-- found above the class
+abbrev pub keeps : Bool → Item → Bool
+keeps received (Plain instr) = not received || option_map_or (λ slot. not (slot == 0)) (stores_in instr) true
+keeps received (Uses use_ wanted) = received || not (is_family wanted)
+keeps received (CallsInterface key signature) = true
+keeps received (Branch jump label) = true
+keeps received (Mark label) = true
+
+-- the code of a member leaves its receiver alone
+abbrev pub KeepsReceiver : Hier → Iface → TypedMember → Type 0
+KeepsReceiver hier head m = list_all (keeps (has_receiver head m.part)) (member_code hier head m).items ≡ true
+
 -- at most as many instructions for each turn of a loop, and at first, as there are items
 abbrev pub CompiledHasOpenTraces : Type 0
 CompiledHasOpenTraces =
     (hier : Hier) (head : Iface) (m : TypedMember) (file : ClassFile) (method : MemberInfo) (more : ℕ) → IsCodeOf hier head m file method →
-    length (member_code hier head m).items ≤ more → HasOpenTraces hier head m file method more
+    KeepsReceiver hier head m → length (member_code hier head m).items ≤ more → HasOpenTraces hier head m file method more

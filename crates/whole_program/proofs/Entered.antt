@@ -18,10 +18,9 @@ use Rattle.jvm_load.specs.FileClasses.{is_static}
 use Rattle.jvm_step.specs.declared.state.State.{State}
 use Rattle.jvm_step.specs.declared.state.Running.{Running}
 use Rattle.jvm_step.specs.Turn as step_of
-use Rattle.jvm_step.specs.Turn.{Goes, turn, called, found_by, wants_static, same_truth, code_where}
+use Rattle.jvm_step.specs.Turn.{Goes, turn, is_on_null, called, found_by, wants_static, same_truth, code_where}
 use Rattle.jvm_step.specs.Run.{on_turn, exec}
 use Rattle.code_trace.specs.Entry as alone
-use Rattle.code_trace.specs.Entry.{is_on_null}
 use Rattle.whole_program.specs.Right.{RunsAs}
 use Rattle.whole_program.proofs.Acts.{pushes, gives_back, Sane, sane}
 use Rattle.whole_program.proofs.Script.{world}

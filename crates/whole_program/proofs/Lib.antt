@@ -4,6 +4,7 @@ pub mod Acts
 pub mod Script
 pub mod Obeys
 pub mod Entered
+pub mod Receivers
 pub mod Linked
 pub mod Passing
 pub mod Ahead

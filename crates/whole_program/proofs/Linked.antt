@@ -37,11 +37,14 @@ use Rattle.jvm_load.specs.FileClasses.{classes_of}
 use Rattle.jvm_step.specs.declared.state.Running.{Running}
 use Rattle.jvm_step.specs.declared.value.End.{End as MachineEnd}
 use Rattle.jvm_step.specs.declared.value.End.TheVariants as machine
+use Rattle.jvm_step.specs.Turn.{is_on_null}
 use Rattle.jvm_step.specs.Run.{Finish, on_turn, exec, from_start, machine_run}
+use Rattle.code_trace.specs.CodeTrace.{on_frame, code_does, trace_from, code_trace}
+use Rattle.code_trace.specs.Given.{IsUnder}
+use Rattle.code_trace.specs.OpenTraces.{IsTraceOf, HasOpenTraces}
 use Rattle.code_trace.specs.Calls.{key_of_method, target_in, call_in, event_in}
-use Rattle.code_trace.specs.Entry.{entry, is_on_null}
-use Rattle.whole_program.specs.Fits.{HoldsMade, IsUnder, Enters, AllEnter, FitsTarget, Fits, EachCallFits}
-use Rattle.whole_program.specs.Alone.{on_frame, does_alone, trace_at, trace_alone, IsOpenTrace, HasTraces}
+use Rattle.code_trace.specs.Entry.{entry}
+use Rattle.whole_program.specs.Fits.{HoldsMade, Enters, AllEnter, FitsTarget, Fits, EachCallFits}
 use Rattle.whole_program.specs.Right.{Bounds, Naming, call_to, RunsMember, RunsHelper, AreAsked, shape_in, question_in, Selecting, helper_call, body_call, truth_value, truths, handed_on, dispatch_does, IsDispatchOf, RunsDispatcher, Reaches, IsRight}
 use Rattle.whole_program.specs.Laws.{fee, EndsAs, Matches, RightKeepsTheMeaning}
 use Rattle.whole_program.proofs.Deep.{member_deep}
@@ -50,6 +53,7 @@ use Rattle.whole_program.proofs.Acts.{pushes}
 use Rattle.whole_program.proofs.Script.{world, Script, returns, trapped, rowless, calls_on, call_ends, same_store, same_trace, Simulates, opens, relabel}
 use Rattle.whole_program.proofs.Obeys.{st, exec_suc, waiting, Invoked, Runs, Out, acts_in, obeys}
 use Rattle.whole_program.proofs.Entered.{entered_by}
+use Rattle.whole_program.proofs.Receivers.{static_there, object_there, constructor_received}
 
 calls_map : (current : List ℕ) (es : List (Event source.Call)) → calls_in (map (event_in current) es) ≡ calls_in es
 calls_map current [] = refl
@@ -96,7 +100,7 @@ module _ (p : Program) (files : List ClassFile) (naming : Naming) (b : Bounds) (
   Ran file me g x y cs go t r =
       (c : ℕ) × (own : ℕ) × (es : List (Event Call)) × Out files Fee b.dispatch file me g x y cs go c own t es 0 0 r × (own + calls_in es ≤ c) × (c ≤ b.turn + own * b.turn)
 
-  member_out : (n k : ℕ) → Sim n → (q : Placed) (vs : List Value) (s : Store) → Enters p q vs s → s.classes ≡ classes_of files → HoldsMade s → (file : ClassFile) (me : MemberInfo) (g : ℕ × ℕ) (x : slice_get files g.0 ≡ Some file) (y : slice_get file.methods g.1 ≡ Some me) (frame : Frame) → entry me vs ≡ Some frame → HasTraces p q file me b.turn →
+  member_out : (n k : ℕ) → Sim n → (q : Placed) (vs : List Value) (s : Store) → Enters p q vs s → s.classes ≡ classes_of files → HoldsMade s → (file : ClassFile) (me : MemberInfo) (g : ℕ × ℕ) (x : slice_get files g.0 ≡ Some file) (y : slice_get file.methods g.1 ≡ Some me) (frame : Frame) → entry me vs ≡ Some frame → HasOpenTraces (hier_in p.classes) q.head q.member file me b.turn →
       (cs : List Running) (t : ℕ) (i o : List ℕ) → t ≤ n → suc t ≤ k → Ran file me g x y cs (λ j. exec files j (st g frame cs s) i o) t (play (calls p n) (placed_does p k q vs) (world t s i o))
   member_out n k sim q vs s enters hs made_all file me g x y frame e has cs t i o le le' =
       let hier = hier_in p.classes in
@@ -108,10 +112,10 @@ module _ (p : Program) (files : List ClassFile) (naming : Naming) (b : Bounds) (
       let T = open_trace {C = source.Call} {E = End} a.own a.answers s i d in
       let same : member_trace hier q.head q.member vs a.own a.answers s i ≡ T =
       same_trace (member_cut hier q.head q.member (suc a.own) k (omega (arith, a.few, le')) vs) a.own (member_deep hier q.head q.member (suc a.own) (suc a.own) (omega arith) vs) a.answers s i in
-      let got = has vs s enters a.own a.answers i in
-      let made = trace_at (acts file me) frame got.0 a.answers s i in
-      let z : trace_alone file me vs got.0 a.answers s i ≡ made = ap (λ (f : Option Frame). open_trace got.0 a.answers s i (on_frame f (does_alone (acts file me) got.0))) e in
-      let is : IsOpenTrace current made T b.turn b.turn = subst (λ (m : Trace Call End). IsOpenTrace current m T b.turn b.turn) z (subst (λ (w : Trace source.Call End). IsOpenTrace current (trace_alone file me vs got.0 a.answers s i) w b.turn b.turn) same got.1) in
+      let got = has vs s enters.given a.own a.answers i in
+      let made = trace_from (acts file me) frame got.0 a.answers s i in
+      let z : code_trace file me vs got.0 a.answers s i ≡ made = ap (λ (f : Option Frame). open_trace got.0 a.answers s i (on_frame f (code_does (acts file me) got.0))) e in
+      let is : IsTraceOf current made T b.turn b.turn = subst (λ (m : Trace Call End). IsTraceOf current m T b.turn b.turn) z (subst (λ (w : Trace source.Call End). IsTraceOf current (code_trace file me vs got.0 a.answers s i) w b.turn b.turn) same got.1) in
       let s1 = subst (λ (es : List (Event Call)). Script InMember a.own t i o es a.answers T.way 0 0 r) (sym is.events) a.script in
       let s2 = relabel InMember made.way is.way s1 in
       let e1 : T.turns * b.turn ≡ a.own * b.turn = ap (λ m. m * b.turn) a.made in (
@@ -124,16 +128,16 @@ module _ (p : Program) (files : List ClassFile) (naming : Naming) (b : Bounds) (
       )
 
   -- a call of a member, whose tick pays for its turns and for a dispatcher
-  exact : (n : ℕ) → Sim n → (target : Target) (q : Placed) (vs : List Value) (s : Store) → Enters p q vs s → s.classes ≡ classes_of files → HoldsMade s → RunsMember p files b s.heap (call_to target vs) q → (t : ℕ) (i o : List ℕ) → t ≤ suc n → (saved slack : ℕ) → saved ≤ b.dispatch →
+  exact : (n : ℕ) → Sim n → (target : Target) (q : Placed) (vs : List Value) (s : Store) → is_on_null target vs ≡ false → Enters p q vs s → s.classes ≡ classes_of files → HoldsMade s → RunsMember p files b s.heap (call_to target vs) q → (t : ℕ) (i o : List ℕ) → t ≤ suc n → (saved slack : ℕ) → saved ≤ b.dispatch →
       Runs files Fee slack 0 saved (call_to target vs) (world t s i o) (member_run p n (calls p n) q vs (world t s i o))
-  exact n sim target q vs s enters hs made_all m t i o le saved slack less = record {
+  exact n sim target q vs s null enters hs made_all m t i o le saved slack less = record {
     keeps = member_keeps p n (calls p n) (calls_keep p n) q vs (world t s i o);
-    runs = λ g f on cs push wants null. paid g f on cs push wants null t le;
+    runs = λ g f on cs push wants. paid g f on cs push wants t le;
   } where
-    paid : (g : ℕ × ℕ) (f on : Frame) (cs : List Running) (push : Bool) → pushes target ≡ Some push → is_on_null target vs ≡ false → (t : ℕ) → t ≤ suc n →
+    paid : (g : ℕ × ℕ) (f on : Frame) (cs : List Running) (push : Bool) → pushes target ≡ Some push → (t : ℕ) → t ≤ suc n →
         Invoked files Fee slack (st g f cs s) (call_to target vs) push on 0 saved (world t s i o) (spend (world t s i o) t (play (calls p n) (placed_does p (suc n) q vs)))
-    paid g f on cs push wants null zero le = (0, refl, omega arith, omega arith)
-    paid g f on cs push wants null (suc t) le =
+    paid g f on cs push wants zero le = (0, refl, omega arith, omega arith)
+    paid g f on cs push wants (suc t) le =
         let at = m.2 in
         let ran = member_out n (suc n) sim q vs s enters hs made_all m.0 m.1 at.at at.file_there at.method_there at.frame at.enters m.3 (waiting (st g f cs s) on ∷ cs) t i o (omega arith) (omega arith) in
         let r = play (calls p n) (placed_does p (suc n) q vs) (world t s i o) in
@@ -143,15 +147,15 @@ module _ (p : Program) (files : List ClassFile) (naming : Naming) (b : Bounds) (
         (omega (arith, ran.5, e1, e2, less)) (omega (arith, ran.5, e1, e2)) ran.4 (omega arith) r ran.3
 
   -- a call of a helper
-  helped : (c : Call) (s : Store) (v : Value) → s.classes ≡ classes_of files → RunsHelper files c s v b.helper → (t : ℕ) (i o : List ℕ) → InDispatcher b.helper 0 c (world t s i o) (Came v (world t s i o))
-  helped c s v hs h t i o = record { keeps = (refl, omega arith, λ m. m); runs = λ g f on cs push wants null. invoked g f on cs push wants null } where
-    invoked : (g : ℕ × ℕ) (f on : Frame) (cs : List Running) (push : Bool) → pushes c.target ≡ Some push → is_on_null c.target c.args ≡ false → Invoked files Fee 0 (st g f cs s) c push on b.helper 0 (world t s i o) (Came v (world t s i o))
-    invoked g f on cs push wants null =
+  helped : (c : Call) (s : Store) (v : Value) → is_on_null c.target c.args ≡ false → s.classes ≡ classes_of files → RunsHelper files c s v b.helper → (t : ℕ) (i o : List ℕ) → InDispatcher b.helper 0 c (world t s i o) (Came v (world t s i o))
+  helped c s v null hs h t i o = record { keeps = (refl, omega arith, λ m. m); runs = λ g f on cs push wants. invoked g f on cs push wants } where
+    invoked : (g : ℕ × ℕ) (f on : Frame) (cs : List Running) (push : Bool) → pushes c.target ≡ Some push → Invoked files Fee 0 (st g f cs s) c push on b.helper 0 (world t s i o) (Came v (world t s i o))
+    invoked g f on cs push wants =
         let r : Run Value = Came v (world t s i o) in
         let at = h.runs in
         let callers = waiting (st g f cs s) on ∷ cs in
-        let T = trace_at (acts h.file h.method) at.frame h.count [] s i in
-        let is : T ≡ record { turns = h.count; events = []; way = Returned v s i } = sym (ap (λ (x : Option Frame). open_trace {E = End} h.count [] s i (on_frame x (does_alone (acts h.file h.method) h.count))) at.enters) ∙ h.trace i in
+        let T = trace_from (acts h.file h.method) at.frame h.count [] s i in
+        let is : T ≡ record { turns = h.count; events = []; way = Returned v s i } = sym (ap (λ (x : Option Frame). open_trace {E = End} h.count [] s i (on_frame x (code_does (acts h.file h.method) h.count))) at.enters) ∙ h.trace i in
         let script = subst (λ (y : Trace Call End). Script InDispatcher 0 t i o y.events [] y.way 0 0 r) (sym is) (returns t s i o [] v) in
         let out = obeys files Fee 0 h.file h.method at.at at.file_there at.method_there callers h.count at.frame [] s i hs 0 t o 0 0 r script in
         entered_by files g f on cs s c push h.file h.method at Fee 0 0 b.helper 0 t t i o wants null h.count 0 [] 0 0 (omega (arith, h.few)) (omega (arith, h.few)) (omega arith) (omega arith) r
@@ -205,27 +209,27 @@ module _ (p : Program) (files : List ClassFile) (naming : Naming) (b : Bounds) (
     asked_script (q ∷ qs) all r runs =
         let rest = asked_script qs all.1 r runs in
         let v = truth_value p k.shape q.1 in
-        let h = helped (helper_call naming vs q) s v k.classes (right.helper m class vs s k q all.0) t i o in
+        let h = helped (helper_call naming vs q) s v (static_there (naming.helper q.0 q.1) vs) k.classes (right.helper m class vs s k q all.0) t i o in
         let e : suc (length qs) * b.helper ≡ b.helper + length qs * b.helper = grind arith in
         (b.helper + rest.0, 0 + rest.1, calls_on (helper_call naming vs q) b.helper 0 s v w0 h rest.2, omega (arith, rest.3, e), omega (arith, rest.4))
 
-    dispatched : (target : Target) → RunsDispatcher p files naming b m class vs s k (call_to target vs) → (g : ℕ × ℕ) (f on : Frame) (cs : List Running) (push : Bool) → pushes target ≡ Some push → is_on_null target vs ≡ false →
+    dispatched : (target : Target) → RunsDispatcher p files naming b m class vs s k (call_to target vs) → (g : ℕ × ℕ) (f on : Frame) (cs : List Running) (push : Bool) → pushes target ≡ Some push →
         Invoked files Fee b.dispatch (st g f cs s) (call_to target vs) push on 0 0 w0 whole
-    dispatched target d g f on cs push wants null =
+    dispatched target d g f on cs push wants =
         let at = d.runs in
         let callers = waiting (st g f cs s) on ∷ cs in
         let a = answer_of r0 in
         let ans = truths p k.shape d.asked s i ++ a ∷ [] in
         let T = asks d.asked a in
         let got = d.traces i (a ∷ []) in
-        let made = trace_at (acts d.file d.method) at.frame got.0 ans s i in
-        let z : trace_alone d.file d.method vs got.0 ans s i ≡ made = ap (λ (f : Option Frame). open_trace got.0 ans s i (on_frame f (does_alone (acts d.file d.method) got.0))) at.enters in
+        let made = trace_from (acts d.file d.method) at.frame got.0 ans s i in
+        let z : code_trace d.file d.method vs got.0 ans s i ≡ made = ap (λ (f : Option Frame). open_trace got.0 ans s i (on_frame f (code_does (acts d.file d.method) got.0))) at.enters in
         let is : IsDispatchOf made T d.own = subst (λ (y : Trace Call End). IsDispatchOf y T d.own) z got.1 in
-        let q = asked_script d.asked d.are_asked r0 (exact n sim body.target (placed k.candidate) vs s k.enters k.classes k.made (right.body m class vs s k) t i o le b.dispatch 0 (omega arith)) in
+        let q = asked_script d.asked d.are_asked r0 (exact n sim body.target (placed k.candidate) vs s (object_there body.target (hier_in p.classes) s vs class k.under) k.enters k.classes k.made (right.body m class vs s k) t i o le b.dispatch 0 (omega arith)) in
         let s1 = subst (λ (es : List (Event Call)). Script InDispatcher 0 t i o es ans T.way q.0 q.1 whole) (sym is.events) q.2 in
         let s2 = relabel InDispatcher made.way is.way s1 in
         let out = obeys files Fee 0 d.file d.method at.at at.file_there at.method_there callers got.0 at.frame ans s i k.classes 0 t o q.0 q.1 whole s2 in
-        entered_by files g f on cs s (call_to target vs) push d.file d.method at Fee 0 b.dispatch 0 0 t t i o wants null made.turns 0 made.events q.0 q.1
+        entered_by files g f on cs s (call_to target vs) push d.file d.method at Fee 0 b.dispatch 0 0 t t i o wants (object_there target (hier_in p.classes) s vs class k.under) made.turns 0 made.events q.0 q.1
         (omega (arith, is.most, d.few, q.3, q.4)) (omega (arith, is.most, d.few, q.3)) (omega (arith, is.least, ap (λ (es : List (Event Call)). calls_in es) is.events)) (omega arith) whole out
 
     -- where the body runs itself, its answer is of the result's kind
@@ -236,18 +240,18 @@ module _ (p : Program) (files : List ClassFile) (naming : Naming) (b : Bounds) (
         subst (λ (x : TypedPart). OnCame (IsResult result) (play (calls p n) (part_does (hier_in p.classes) k.candidate.head k.candidate.member x (suc n) vs) w)) (sym is)
         (method_result (calls p n) (hier_in p.classes) k.candidate.head k.candidate.member at (suc n) vs w k.candidate.method method)))
 
-    reached : (target : Target) → Reaches p files naming b m class vs s k (call_to target vs) → (g : ℕ × ℕ) (f on : Frame) (cs : List Running) (push : Bool) → pushes target ≡ Some push → is_on_null target vs ≡ false →
+    reached : (target : Target) → Reaches p files naming b m class vs s k (call_to target vs) → (g : ℕ × ℕ) (f on : Frame) (cs : List Running) (push : Bool) → pushes target ≡ Some push →
         Invoked files Fee b.dispatch (st g f cs s) (call_to target vs) push on 0 0 w0 whole
-    reached target (inl d) g f on cs push wants null =
+    reached target (inl d) g f on cs push wants =
         subst (Invoked files Fee b.dispatch (st g f cs s) (call_to target vs) push on 0 0 w0) (sym (itself d.at d.part d.method))
-        ((exact n sim target (placed k.candidate) vs s k.enters k.classes k.made d.runs t i o le 0 b.dispatch (omega arith)).runs g f on cs push wants null)
-    reached target (inr d) g f on cs push wants null = dispatched target d g f on cs push wants null
+        ((exact n sim target (placed k.candidate) vs s (object_there target (hier_in p.classes) s vs class k.under) k.enters k.classes k.made d.runs t i o le 0 b.dispatch (omega arith)).runs g f on cs push wants)
+    reached target (inr d) g f on cs push wants = dispatched target d g f on cs push wants
 
   -- a call of a family, from what is selected
-  selects : (n : ℕ) → Sim n → (m : Method) (class : Word) (vs : List Value) (s : Store) (t : ℕ) (i o : List ℕ) → t ≤ suc n → has_family p.classes m ≡ true → s.classes ≡ classes_of files → HoldsMade s → IsUnder p s vs class → AllEnter p (chain_of p.classes m class) vs s → (target : Target) →
-      ((k : Selecting p files m class vs s) → Reaches p files naming b m class vs s k (call_to target vs)) → (g : ℕ × ℕ) (f on : Frame) (cs : List Running) (push : Bool) → pushes target ≡ Some push → is_on_null target vs ≡ false →
+  selects : (n : ℕ) → Sim n → (m : Method) (class : Word) (vs : List Value) (s : Store) (t : ℕ) (i o : List ℕ) → t ≤ suc n → has_family p.classes m ≡ true → s.classes ≡ classes_of files → HoldsMade s → IsUnder (hier_in p.classes) s vs class → AllEnter p (chain_of p.classes m class) vs s → (target : Target) →
+      ((k : Selecting p files m class vs s) → Reaches p files naming b m class vs s k (call_to target vs)) → (g : ℕ × ℕ) (f on : Frame) (cs : List Running) (push : Bool) → pushes target ≡ Some push →
       Invoked files Fee b.dispatch (st g f cs s) (call_to target vs) push on 0 0 (world t s i o) (select_in p (member_run p n (calls p n)) (calls p n) (chain_of p.classes m class) vs (world t s i o))
-  selects n sim m class vs s t i o le declared hs made_all under all target reaches g f on cs push wants null = by_shape (shape_in p chain vs s) refl where
+  selects n sim m class vs s t i o le declared hs made_all under all target reaches g f on cs push wants = by_shape (shape_in p chain vs s) refl where
     chain : List Candidate
     chain = chain_of p.classes m class
 
@@ -264,7 +268,7 @@ module _ (p : Program) (files : List ClassFile) (naming : Naming) (b : Bounds) (
     by_candidate shape e j e' None z = (0, refl)
     by_candidate shape e j e' (Some c) z =
         let k : Selecting p files m class vs s = record { declared = declared; classes = hs; made = made_all; under = under; shape = shape; shaped = e; index = j; selected = e'; candidate = c; there = z; enters = all j c z } in
-        reached n sim m class vs s k t i o le target (reaches k) g f on cs push wants null
+        reached n sim m class vs s k t i o le target (reaches k) g f on cs push wants
 
     by_choice : (shape : Shape) → shape_in p chain vs s ≡ Some shape → (c : Choice) → p.select (question_in chain shape) ≡ c → Becomes (chosen chain c w0 go)
     by_choice shape e (Selects j) e' = by_candidate shape e j e' (slice_get chain j) refl
@@ -278,7 +282,7 @@ module _ (p : Program) (files : List ClassFile) (naming : Naming) (b : Bounds) (
   next_sim : (n : ℕ) → Sim n → Sim (suc n)
   next_sim n sim class position there_is c w hs made_all fit le = record {
     keeps = calls_keep p (suc n) c w;
-    runs = λ g f on cs push wants null. by_target g f on cs push c.target c.args fit wants null;
+    runs = λ g f on cs push wants. by_target g f on cs push c.target c.args fit wants;
   } where
     current : List ℕ
     current = internal_name class.head.name
@@ -289,45 +293,45 @@ module _ (p : Program) (files : List ClassFile) (naming : Naming) (b : Bounds) (
     Becomes : ℕ × ℕ → Frame → Frame → List Running → Bool → source.Target → List Value → Run Value → Type 0
     Becomes g f on cs push x vs = Invoked files Fee b.dispatch (st g f cs w.store) (call_to (target_in current x) vs) push on 0 0 w
 
-    by_static : (m : Method) (vs : List Value) (g : ℕ × ℕ) (f on : Frame) (cs : List Running) (push : Bool) → FitsTarget p class.head (source.StaticMethod m) vs w.store → pushes (StaticMethod (key_of_method m)) ≡ Some push → is_on_null (StaticMethod (key_of_method m)) vs ≡ false →
+    by_static : (m : Method) (vs : List Value) (g : ℕ × ℕ) (f on : Frame) (cs : List Running) (push : Bool) → FitsTarget p class.head (source.StaticMethod m) vs w.store → pushes (StaticMethod (key_of_method m)) ≡ Some push →
         (x : Option Placed) → static_named p.classes m ≡ x → Becomes g f on cs push (source.StaticMethod m) vs (there x w (λ q. member_run p n (calls p n) q vs w))
-    by_static m vs g f on cs push fit wants null None e = (0, refl)
-    by_static m vs g f on cs push fit wants null (Some q) e =
-        (exact n sim (StaticMethod (key_of_method m)) q vs w.store (fit q e) hs made_all (right.static m q e vs w.store hs (fit q e)) w.ticks w.input w.out le 0 b.dispatch (omega arith)).runs g f on cs push wants null
+    by_static m vs g f on cs push fit wants None e = (0, refl)
+    by_static m vs g f on cs push fit wants (Some q) e =
+        (exact n sim (StaticMethod (key_of_method m)) q vs w.store (static_there (key_of_method m) vs) (fit q e) hs made_all (right.static m q e vs w.store hs (fit q e)) w.ticks w.input w.out le 0 b.dispatch (omega arith)).runs g f on cs push wants
 
-    by_constructor : (m : Method) (vs : List Value) (g : ℕ × ℕ) (f on : Frame) (cs : List Running) (push : Bool) → FitsTarget p class.head (source.Constructor m) vs w.store → pushes (Constructor (key_of_method m)) ≡ Some push → is_on_null (Constructor (key_of_method m)) vs ≡ false →
+    by_constructor : (m : Method) (vs : List Value) (g : ℕ × ℕ) (f on : Frame) (cs : List Running) (push : Bool) → FitsTarget p class.head (source.Constructor m) vs w.store → pushes (Constructor (key_of_method m)) ≡ Some push →
         (x : Option Placed) → constructor_named p.classes m ≡ x → Becomes g f on cs push (source.Constructor m) vs (there x w (λ q. member_run p n (calls p n) q vs w))
-    by_constructor m vs g f on cs push fit wants null None e = (0, refl)
-    by_constructor m vs g f on cs push fit wants null (Some q) e =
-        (exact n sim (Constructor (key_of_method m)) q vs w.store (fit.1 q e) hs made_all (right.constructor m q fit.0 e vs w.store hs (fit.1 q e)) w.ticks w.input w.out le 0 b.dispatch (omega arith)).runs g f on cs push wants null
+    by_constructor m vs g f on cs push fit wants None e = (0, refl)
+    by_constructor m vs g f on cs push fit wants (Some q) e =
+        (exact n sim (Constructor (key_of_method m)) q vs w.store (object_there (Constructor (key_of_method m)) (hier_in p.classes) w.store vs q.head.name ((fit.1 q e).given.receiver (constructor_received p.classes m q e))) (fit.1 q e) hs made_all (right.constructor m q fit.0 e vs w.store hs (fit.1 q e)) w.ticks w.input w.out le 0 b.dispatch (omega arith)).runs g f on cs push wants
 
-    by_class : (m : Method) (vs : List Value) (g : ℕ × ℕ) (f on : Frame) (cs : List Running) (push : Bool) → ((class : Word) → receiver_class w.store vs ≡ Some class → AllEnter p (chain_of p.classes m class) vs w.store) → pushes (VirtualMethod m.name m.descriptor) ≡ Some push → is_on_null (VirtualMethod m.name m.descriptor) vs ≡ false →
+    by_class : (m : Method) (vs : List Value) (g : ℕ × ℕ) (f on : Frame) (cs : List Running) (push : Bool) → ((class : Word) → receiver_class w.store vs ≡ Some class → AllEnter p (chain_of p.classes m class) vs w.store) → pushes (VirtualMethod m.name m.descriptor) ≡ Some push →
         has_family p.classes m ≡ true → (x : Option Word) → receiver_class w.store vs ≡ x → Becomes g f on cs push (source.OfClass m) vs (there x w (λ class. select_in p (member_run p n (calls p n)) (calls p n) (chain_of p.classes m class) vs w))
-    by_class m vs g f on cs push fit wants null declared None e = (0, refl)
-    by_class m vs g f on cs push fit wants null declared (Some own) e =
-        selects n sim m own vs w.store w.ticks w.input w.out le declared hs made_all (own, e, inl refl) (fit own e) (VirtualMethod m.name m.descriptor) (λ k. right.virtual m own vs w.store k e) g f on cs push wants null
+    by_class m vs g f on cs push fit wants declared None e = (0, refl)
+    by_class m vs g f on cs push fit wants declared (Some own) e =
+        selects n sim m own vs w.store w.ticks w.input w.out le declared hs made_all (own, e, inl refl) (fit own e) (VirtualMethod m.name m.descriptor) (λ k. right.virtual m own vs w.store k e) g f on cs push wants
 
-    by_family : (m : Method) (vs : List Value) (g : ℕ × ℕ) (f on : Frame) (cs : List Running) (push : Bool) → ((class : Word) → receiver_class w.store vs ≡ Some class → AllEnter p (chain_of p.classes m class) vs w.store) → pushes (VirtualMethod m.name m.descriptor) ≡ Some push → is_on_null (VirtualMethod m.name m.descriptor) vs ≡ false →
+    by_family : (m : Method) (vs : List Value) (g : ℕ × ℕ) (f on : Frame) (cs : List Running) (push : Bool) → ((class : Word) → receiver_class w.store vs ≡ Some class → AllEnter p (chain_of p.classes m class) vs w.store) → pushes (VirtualMethod m.name m.descriptor) ≡ Some push →
         (x : Bool) → has_family p.classes m ≡ x → Becomes g f on cs push (source.OfClass m) vs (cond x (there (receiver_class w.store vs) w (λ class. select_in p (member_run p n (calls p n)) (calls p n) (chain_of p.classes m class) vs w)) (Ended IsStuck w))
-    by_family m vs g f on cs push fit wants null false e = (0, refl)
-    by_family m vs g f on cs push fit wants null true e = by_class m vs g f on cs push fit wants null e (receiver_class w.store vs) refl
+    by_family m vs g f on cs push fit wants false e = (0, refl)
+    by_family m vs g f on cs push fit wants true e = by_class m vs g f on cs push fit wants e (receiver_class w.store vs) refl
 
-    by_above : (m : Method) (vs : List Value) (g : ℕ × ℕ) (f on : Frame) (cs : List Running) (push : Bool) → FitsTarget p class.head (source.OfSuperclass m) vs w.store → pushes (MethodAbove current m.name m.descriptor) ≡ Some push → is_on_null (MethodAbove current m.name m.descriptor) vs ≡ false →
+    by_above : (m : Method) (vs : List Value) (g : ℕ × ℕ) (f on : Frame) (cs : List Running) (push : Bool) → FitsTarget p class.head (source.OfSuperclass m) vs w.store → pushes (MethodAbove current m.name m.descriptor) ≡ Some push →
         (x : Bool) → has_family p.classes m ≡ x → Becomes g f on cs push (source.OfSuperclass m) vs (cond x (select_in p (member_run p n (calls p n)) (calls p n) (chain_of p.classes m (word_of m.class)) vs w) (Ended IsStuck w))
-    by_above m vs g f on cs push fit wants null false e = (0, refl)
-    by_above m vs g f on cs push fit wants null true e =
-        selects n sim m (word_of m.class) vs w.store w.ticks w.input w.out le e hs made_all fit.2 fit.3 (MethodAbove current m.name m.descriptor) (λ k. right.above class position there_is m vs w.store k fit.0 fit.1) g f on cs push wants null
+    by_above m vs g f on cs push fit wants false e = (0, refl)
+    by_above m vs g f on cs push fit wants true e =
+        selects n sim m (word_of m.class) vs w.store w.ticks w.input w.out le e hs made_all fit.2 fit.3 (MethodAbove current m.name m.descriptor) (λ k. right.above class position there_is m vs w.store k fit.0 fit.1) g f on cs push wants
 
-    by_target : (g : ℕ × ℕ) (f on : Frame) (cs : List Running) (push : Bool) (x : source.Target) (vs : List Value) → FitsTarget p class.head x vs w.store → pushes (target_in current x) ≡ Some push → is_on_null (target_in current x) vs ≡ false →
+    by_target : (g : ℕ × ℕ) (f on : Frame) (cs : List Running) (push : Bool) (x : source.Target) (vs : List Value) → FitsTarget p class.head x vs w.store → pushes (target_in current x) ≡ Some push →
         Becomes g f on cs push x vs (call_by p (member_run p n (calls p n)) (calls p n) x vs w)
-    by_target g f on cs push (source.StaticMethod m) vs fit wants null = by_static m vs g f on cs push fit wants null (static_named p.classes m) refl
-    by_target g f on cs push (source.Constructor m) vs fit wants null = by_constructor m vs g f on cs push fit wants null (constructor_named p.classes m) refl
-    by_target g f on cs push (source.OfClass m) vs fit wants null = by_family m vs g f on cs push fit wants null (has_family p.classes m) refl
-    by_target g f on cs push (source.OfInterface m) vs fit wants null = by_family m vs g f on cs push fit wants null (has_family p.classes m) refl
-    by_target g f on cs push (source.OfSuperclass m) vs fit wants null = by_above m vs g f on cs push fit wants null (has_family p.classes m) refl
+    by_target g f on cs push (source.StaticMethod m) vs fit wants = by_static m vs g f on cs push fit wants (static_named p.classes m) refl
+    by_target g f on cs push (source.Constructor m) vs fit wants = by_constructor m vs g f on cs push fit wants (constructor_named p.classes m) refl
+    by_target g f on cs push (source.OfClass m) vs fit wants = by_family m vs g f on cs push fit wants (has_family p.classes m) refl
+    by_target g f on cs push (source.OfInterface m) vs fit wants = by_family m vs g f on cs push fit wants (has_family p.classes m) refl
+    by_target g f on cs push (source.OfSuperclass m) vs fit wants = by_above m vs g f on cs push fit wants (has_family p.classes m) refl
 
   sims : (n : ℕ) → Sim n
-  sims zero class position there_is c w hs made_all fit le = record { keeps = tt; runs = λ g f on cs push wants null. (0, refl, omega arith, omega (arith, le)) }
+  sims zero class position there_is c w hs made_all fit le = record { keeps = tt; runs = λ g f on cs push wants. (0, refl, omega arith, omega (arith, le)) }
   sims (suc n) class position there_is c w hs made_all fit le = next_sim n (sims n) class position there_is c w hs made_all fit le
 
   -- the whole run, by that of `main`

@@ -1,6 +1,6 @@
 -- The machine does what a script says, from the script and the code's trace alone.
 use Rattle.std.proofs.Common.{◌≡◌, ℕ, zero, suc, ◌+◌, ◌*◌, ◌≤◌, List, [], ◌∷◌, ◌++◌, Option, Some, None, refl, sym, ap, ◌∙◌, subst, arith}
-use Rattle.std.specs.Prelude.{ℤ, Bool, true, false, cond, is_some, unwrap_or, slice_get}
+use Rattle.std.specs.Prelude.{ℤ, Bool, true, false, is_some, unwrap_or, slice_get}
 use Rattle.std.proofs.lemmas.Bool.{false≢true}
 use Rattle.std.specs.Fmt.{signed_decimal}
 use Rattle.class_form.specs.declared.class_file.ClassFile.{ClassFile}
@@ -10,7 +10,6 @@ use Rattle.jp_store.specs.declared.value.TrapKind.{TrapKind}
 use Rattle.jp_store.specs.declared.outcome.Outcome.TheVariants.{Fine, Trap, Wrong}
 use Rattle.jp_store.specs.Store.{Store}
 use Rattle.jp_store.specs.Work.{Op, Worked, work}
-use Rattle.jp_does.specs.Does.{Stuck, Calls}
 use Rattle.jp_does.specs.OpenTrace.{Answer, Event, Called, Printed, Showed, WasRead, Way, Returned, Trapped as WayTrapped, AtLimit, IsStuck as WayStuck, Trace, first_of, rest_of, turned, changed, answered as answers_on, open_trace, calls_in}
 use Rattle.jp_meaning.specs.Run.{End, Done, Trapped, NoBody, TwoBodies, IsStuck, More, World, Run, Came, Ended}
 use Rattle.jvm_table.specs.declared.frame.Frame.{Frame}
@@ -22,9 +21,7 @@ use Rattle.jvm_step.specs.declared.state.Running.{Running}
 use Rattle.jvm_step.specs.Turn as step_of
 use Rattle.jvm_step.specs.Turn.{Turn, Goes, turn, turn_of, worked, left, returned, found_by, wants_static, same_truth}
 use Rattle.jvm_step.specs.Run.{Finish, on_turn, exec}
-use Rattle.code_trace.specs.Entry.{is_on_null}
-use Rattle.code_trace.specs.CodeTrace.{with_read, value_left}
-use Rattle.whole_program.specs.Alone.{on_frame, act_alone, does_alone, trace_at}
+use Rattle.code_trace.specs.CodeTrace.{with_read, value_left, on_frame, act_does, code_does, trace_from}
 use Rattle.whole_program.proofs.Keeps.{Kept, work_keeps, Keeps}
 use Rattle.whole_program.proofs.Acts.{pushes, Sane, sane}
 use Rattle.whole_program.proofs.Script.{world, IsLost, Script, returns, trapped, limited, lost, rowless, ticks, prints, shows, reads, calls_on, call_ends}
@@ -113,8 +110,7 @@ Invoked files fee slack x c push on cost saved w (Ended e u) =
 -- the machine does what became of a call, wherever the call is made
 pub record Runs (files : List ClassFile) (fee slack cost saved : ℕ) (c : Call) (w : World) (r : Run Value) : Type 0 where
   pub keeps : Keeps w r
-  pub runs : (g : ℕ × ℕ) (f on : Frame) (cs : List Running) (push : Bool) → pushes c.target ≡ Some push → is_on_null c.target c.args ≡ false →
-      Invoked files fee slack (st g f cs w.store) c push on cost saved w r
+  pub runs : (g : ℕ × ℕ) (f on : Frame) (cs : List Running) (push : Bool) → pushes c.target ≡ Some push → Invoked files fee slack (st g f cs w.store) c push on cost saved w r
 
 -- a method came to a value, which it is about to return
 pub record LeavesWith (files : List ClassFile) (fee : ℕ) (file : ClassFile) (me : MemberInfo) (go : ℕ → Finish) (g : ℕ × ℕ) (cs : List Running) (c own t : ℕ) (es : List (Event Call)) (cost saved : ℕ) (u : World) (v : Value) : Type 0 where
@@ -319,24 +315,24 @@ module _ (files : List ClassFile) (fee slack : ℕ) (file : ClassFile) (me : Mem
   run = acts file me
 
   abbrev after_answer : ℕ → Bool → Frame → Store → List (Answer End) → Trace Call End
-  after_answer n push on s ans = answers_on s ans (λ v u j more. open_trace n more u j (on_frame (answered push v on) (does_alone run n)))
+  after_answer n push on s ans = answers_on s ans (λ v u j more. open_trace n more u j (on_frame (answered push v on) (code_does run n)))
 
   abbrev Rec : ℕ → Type 0
-  Rec n = (f : Frame) (ans : List (Answer End)) (s : Store) (i : List ℕ) → s.classes ≡ classes_of files → Obeys f (trace_at run f n ans s i) ans s i
+  Rec n = (f : Frame) (ans : List (Answer End)) (s : Store) (i : List ℕ) → s.classes ≡ classes_of files → Obeys f (trace_from run f n ans s i) ans s i
 
-  invoking : (n : ℕ) → Rec n → (f on : Frame) (h : Call) (push : Bool) (s u : Store) (i j o : List ℕ) (es : List (Event Call)) (ans : List (Answer End)) (way : Way End) (own t cost saved : ℕ) (r : Run Value) → acts file me f ≡ Invokes h push on → is_on_null h.target h.args ≡ false → s.classes ≡ classes_of files → s ≡ u →
+  invoking : (n : ℕ) → Rec n → (f on : Frame) (h : Call) (push : Bool) (s u : Store) (i j o : List ℕ) (es : List (Event Call)) (ans : List (Answer End)) (way : Way End) (own t cost saved : ℕ) (r : Run Value) → acts file me f ≡ Invokes h push on → s.classes ≡ classes_of files → s ≡ u →
       es ≡ (after_answer n push on s ans).events → way ≡ (after_answer n push on s ans).way → Script R own t i o (Called h u j ∷ es) ans way cost saved r → Out (from f s i o) (suc (after_answer n push on s ans).turns) own t (Called h s i ∷ es) cost saved r
-  invoking n rec f on _ push s _ i _ o _ _ _ own t _ _ r e null hs same same_es same_way (calls_on {es = es} {ans = ans} {way = way} {cost = cost} {saved = saved} h k l u v w got x) =
+  invoking n rec f on _ push s _ i _ o _ _ _ own t _ _ r e hs same same_es same_way (calls_on {es = es} {ans = ans} {way = way} {cost = cost} {saved = saved} h k l u v w got x) =
       by_room (answered push v on) refl same_es same_way where
         s' : Store
         s' = record s { heap = w.store.heap; statics = w.store.statics }
 
         q : Returns files fee (st g f cs s) h push on k l (world t s i o) w v
         q = subst (λ (y : Store). Returns files fee (st g f cs y) h push on k l (world t y i o) w v) (sym same)
-            (got.runs g f on cs push (subst (Sane file me) e (sane file me f)) null)
+            (got.runs g f on cs push (subst (Sane file me) e (sane file me f)))
 
         next : Option Frame → Trace Call End
-        next to = open_trace n ans s' w.input (on_frame to (does_alone run n))
+        next to = open_trace n ans s' w.input (on_frame to (code_does run n))
 
         by_room : (to : Option Frame) → answered push v on ≡ to → es ≡ (next to).events → way ≡ (next to).way → Out (from f s i o) (suc (next to).turns) own t (Called h s i ∷ es) (k + cost) (l + saved) r
         by_room None room z1 z2 =
@@ -347,28 +343,21 @@ module _ (files : List ClassFile) (fee slack : ℕ) (file : ClassFile) (me : Mem
             (subst (λ (y : Way End). Script R own w.ticks w.input w.out [] ans y cost saved r) z2 (subst (λ (y : List (Event Call)). Script R own w.ticks w.input w.out y ans way cost saved r) z1 x))
             1 own t (Called h s i ∷ es) (k + cost) (l + saved)
         by_room (Some to) room z1 z2 =
-            let T = trace_at run to n ans s' w.input in
+            let T = trace_from run to n ans s' w.input in
             let x' = subst (λ (y : Way End). Script R own w.ticks w.input w.out T.events ans y cost saved r) z2 (subst (λ (y : List (Event Call)). Script R own w.ticks w.input w.out y ans way cost saved r) z1 x) in
             out_call f on to h push s i o k l v t w T.turns own es cost saved r e room q
             (subst (λ (y : List (Event Call)). Out (from to s' w.input w.out) T.turns own w.ticks y cost saved r) (sym z1) (rec to ans s' w.input hs own w.ticks w.out cost saved r x'))
-  invoking n rec f on _ push s _ i _ o _ _ _ _ t _ _ _ e null hs same same_es same_way (call_ends _ u _ _ h k l y w got) =
+  invoking n rec f on _ push s _ i _ o _ _ _ _ t _ _ _ e hs same same_es same_way (call_ends _ u _ _ h k l y w got) =
       out_end f on h push s i o k l y w t e (subst (λ (z : Store). Invoked files fee slack (st g f cs z) h push on k l (world t z i o) (Ended y w)) (sym same)
-      (got.runs g f on cs push (subst (Sane file me) e (sane file me f)) null))
-  invoking n rec f on h push s u i j o es ans way _ _ cost saved r e null hs same same_es same_way (ticks {own = own} {t = t} x) =
-      out_tick (from f s i o) (suc (after_answer n push on s ans).turns) own t (Called h s i ∷ es) cost saved r (invoking n rec f on h push s u i j o es ans way own t cost saved r e null hs same same_es same_way x)
-
-  by_null : (n : ℕ) → Rec n → (f on : Frame) (h : Call) (push : Bool) (s : Store) (i : List ℕ) (ans : List (Answer End)) → acts file me f ≡ Invokes h push on → s.classes ≡ classes_of files → (b : Bool) → is_on_null h.target h.args ≡ b →
-      Obeys f (turned (open_trace n ans s i (cond b Stuck (Calls h (λ v. on_frame (answered push v on) (does_alone run n)))))) ans s i
-  by_null n rec f on h push s i ans e hs true z own t o cost saved r x = no_row f s i o ans own t cost saved r x
-  by_null n rec f on h push s i ans e hs false z own t o cost saved r x =
-      let T = after_answer n push on s ans in
-      invoking n rec f on h push s s i i o T.events ans T.way own t cost saved r e z hs refl refl refl x
+      (got.runs g f on cs push (subst (Sane file me) e (sane file me f))))
+  invoking n rec f on h push s u i j o es ans way _ _ cost saved r e hs same same_es same_way (ticks {own = own} {t = t} x) =
+      out_tick (from f s i o) (suc (after_answer n push on s ans).turns) own t (Called h s i ∷ es) cost saved r (invoking n rec f on h push s u i j o es ans way own t cost saved r e hs same same_es same_way x)
 
   by_room : (n : ℕ) → Rec n → (f on : Frame) (op : Op) (push : Bool) (s u : Store) (v : Value) (i : List ℕ) (ans : List (Answer End)) → acts file me f ≡ Effects op push on → s.classes ≡ classes_of files → u.classes ≡ s.classes → work op s ≡ Fine (v, u) → (to : Option Frame) → answered push v on ≡ to →
-      Obeys f (turned (open_trace n ans u i (on_frame to (does_alone run n)))) ans s i
+      Obeys f (turned (open_trace n ans u i (on_frame to (code_does run n)))) ans s i
   by_room n rec f on op push s u v i ans e hs hu done None room own t o cost saved r x = no_row f s i o ans own t cost saved r x
   by_room n rec f on op push s u v i ans e hs hu done (Some to) room own t o cost saved r x =
-      let T = trace_at run to n ans u i in
+      let T = trace_from run to n ans u i in
       out_step (from to u i o) (from f s i o)
       (λ k. step f s i o (Effects op push on) e k
       ∙ ap (λ (y : Store). on_turn files (exec files k) i o (worked (st g f cs s) push on (work op y))) (machine_store s hs)
@@ -377,7 +366,7 @@ module _ (files : List ClassFile) (fee slack : ℕ) (file : ClassFile) (me : Mem
       T.turns own t T.events cost saved r (rec to ans u i (hu ∙ hs) own t o cost saved r x)
 
   by_work : (n : ℕ) → Rec n → (f on : Frame) (op : Op) (push : Bool) (s : Store) (i : List ℕ) (ans : List (Answer End)) → acts file me f ≡ Effects op push on → s.classes ≡ classes_of files → (y : Worked) → work op s ≡ y →
-      Obeys f (turned (changed y (λ v u. open_trace n ans u i (on_frame (answered push v on) (does_alone run n))))) ans s i
+      Obeys f (turned (changed y (λ v u. open_trace n ans u i (on_frame (answered push v on) (code_does run n))))) ans s i
   by_work n rec f on op push s i ans e hs (Fine z) done own t o cost saved r x = by_room n rec f on op push s z.1 z.0 i ans e hs (subst (Kept s) done (work_keeps op s)).0 done (answered push z.0 on) refl own t o cost saved r x
   by_work n rec f on op push s i ans e hs (Trap k) done own t o cost saved r x =
       failing f k s i o ans own t cost saved r (λ o. step f s i o (Effects op push on) e 0
@@ -385,18 +374,19 @@ module _ (files : List ClassFile) (fee slack : ℕ) (file : ClassFile) (me : Mem
       ∙ ap (λ (y : Worked). on_turn files (exec files 0) i o (worked (st g f cs s) push on y)) done) x
   by_work n rec f on op push s i ans e hs Wrong done own t o cost saved r x = no_row f s i o ans own t cost saved r x
 
-  by_act : (n : ℕ) → Rec n → (f : Frame) (ans : List (Answer End)) (s : Store) (i : List ℕ) → s.classes ≡ classes_of files → (a : Act) → acts file me f ≡ a → Obeys f (open_trace (suc n) ans s i (act_alone (does_alone run n) a)) ans s i
+  by_act : (n : ℕ) → Rec n → (f : Frame) (ans : List (Answer End)) (s : Store) (i : List ℕ) → s.classes ≡ classes_of files → (a : Act) → acts file me f ≡ a → Obeys f (open_trace (suc n) ans s i (act_does (code_does run n) a)) ans s i
   by_act n rec f ans s i hs (Moves to) e own t o cost saved r x =
-      let T = trace_at run to n ans s i in out_step (from to s i o) (from f s i o) (step f s i o (Moves to) e) T.turns own t T.events cost saved r (rec to ans s i hs own t o cost saved r x)
+      let T = trace_from run to n ans s i in out_step (from to s i o) (from f s i o) (step f s i o (Moves to) e) T.turns own t T.events cost saved r (rec to ans s i hs own t o cost saved r x)
   by_act n rec f ans s i hs (ShowsInt v on) e own t o cost saved r x =
-      let T = trace_at run on n ans s i in showing_int f on v s i o T.events ans T.way T.turns own t cost saved r e (λ own t o x. rec on ans s i hs own t o cost saved r x) x
+      let T = trace_from run on n ans s i in showing_int f on v s i o T.events ans T.way T.turns own t cost saved r e (λ own t o x. rec on ans s i hs own t o cost saved r x) x
   by_act n rec f ans s i hs (ShowsText v on) e own t o cost saved r x =
-      let T = trace_at run on n ans s i in showing_text f on v s i o T.events ans T.way T.turns own t cost saved r e (λ own t o x. rec on ans s i hs own t o cost saved r x) x
+      let T = trace_from run on n ans s i in showing_text f on v s i o T.events ans T.way T.turns own t cost saved r e (λ own t o x. rec on ans s i hs own t o cost saved r x) x
   by_act n rec f ans s i hs (Asks on) e own t o cost saved r x =
-      let T = trace_at run (with_read (first_of i) on) n ans s (rest_of i) in
+      let T = trace_from run (with_read (first_of i) on) n ans s (rest_of i) in
       asking f on (first_of i) s i o T.events ans T.way T.turns own t cost saved r e (λ own t o x. rec (with_read (first_of i) on) ans s (rest_of i) hs own t o cost saved r x) x
   by_act n rec f ans s i hs (Effects op push on) e own t o cost saved r x = by_work n rec f on op push s i ans e hs (work op s) refl own t o cost saved r x
-  by_act n rec f ans s i hs (Invokes h push on) e own t o cost saved r x = by_null n rec f on h push s i ans e hs (is_on_null h.target h.args) refl own t o cost saved r x
+  by_act n rec f ans s i hs (Invokes h push on) e own t o cost saved r x =
+      let T = after_answer n push on s ans in invoking n rec f on h push s s i i o T.events ans T.way own t cost saved r e hs refl refl refl x
   by_act n rec f ans s i hs (Leaves v) e own t o cost saved r x = leaving f v (value_left v) s s i i o ans own t cost saved r e refl refl x
   by_act n rec f ans s i hs (Fails k) e own t o cost saved r x = failing f k s i o ans own t cost saved r (λ o. step f s i o (Fails k) e 0) x
   by_act n rec f ans s i hs NoRow e own t o cost saved r x = no_row f s i o ans own t cost saved r x

@@ -18,7 +18,7 @@ use Rattle.jp_meaning.proofs.Cuts.{Cut, cut, gives, traps, ticks as cut_ticks, p
 use Rattle.jvm_table.specs.Act.{Call}
 use Rattle.code_trace.specs.Calls.{call_in, event_in}
 use Rattle.code_trace.specs.Follows.{IsDeep}
-use Rattle.whole_program.specs.Alone.{EndsLike}
+use Rattle.code_trace.specs.OpenTraces.{EndsLike}
 use Rattle.whole_program.specs.Fits.{HoldsMade, Fits, CallsFit, on_work}
 use Rattle.whole_program.proofs.Keeps.{Kept, work_keeps, Keeps, calls_keep}
 

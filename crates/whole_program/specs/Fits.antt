@@ -1,10 +1,9 @@
 -- What it means that each call of a program is one of a member with what it is declared with.
-use Rattle.std.specs.Prelude.{◌≡◌, ◌⊎◌, ℕ, zero, suc, List, [], ◌∷◌, Bool, true, false, not, ◌||◌, Some, map, slice_get, codes}
+use Rattle.std.specs.Prelude.{◌≡◌, ℕ, zero, suc, List, [], ◌∷◌, Bool, true, false, not, ◌||◌, Some, map, slice_get, codes}
 use Rattle.std.specs.Option.{option_map_or}
 use Rattle.std.specs.Fmt.{signed_decimal}
 use Rattle.iface_codec.specs.declared.iface.Iface.{Iface}
 use Rattle.jp_pred.specs.Names.{Word}
-use Rattle.jp_pred.specs.Hierarchy.{is_below}
 use Rattle.jp_store.specs.declared.value.Value.{Value}
 use Rattle.jp_store.specs.declared.heap.Thing.{Thing}
 use Rattle.jp_store.specs.declared.heap.Thing.TheVariants.{Object, Array}
@@ -15,18 +14,11 @@ use Rattle.jp_store.specs.Work.{Worked, is_concrete, work}
 use Rattle.jp_does.specs.OpenTrace.{first_of, rest_of}
 use Rattle.jp_does.specs.Does.{Gives, Traps, Ticks, Prints, Shows, Reads, Works, Calls, Limit, Stuck}
 use Rattle.jp_meaning.specs.declared.unit.TypedClass.{TypedClass}
-use Rattle.jp_meaning.specs.declared.unit.TypedPart.{TypedPart}
-use Rattle.jp_meaning.specs.declared.unit.TypedPart.TheVariants as part
 use Rattle.jp_meaning.specs.Does.{Target, StaticMethod, Constructor, OfClass, OfInterface, OfSuperclass, Call, Does}
 use Rattle.jp_meaning.specs.Descriptors.{word_of}
-use Rattle.jp_meaning.specs.Classes.{Placed, Candidate, placed, is_static, hier_in, class_in, class_of_head, static_named, constructor_named, chain_of}
+use Rattle.jp_meaning.specs.Classes.{Placed, Candidate, placed, hier_in, class_in, class_of_head, static_named, constructor_named, chain_of}
 use Rattle.jp_meaning.specs.Run.{World, Came, Program, receiver_class, write, placed_does, main_of, calls}
-use Rattle.code_trace.specs.OpenTraces.{are_for}
-
--- the receiver is an object of the class or of one below it
-abbrev pub IsUnder : Program → Store → List Value → Word → Type 0
-IsUnder p s vs class =
-    (own : Word) × (receiver_class s vs ≡ Some own) × ((own ≡ class) ⊎ (is_below (hier_in p.classes) own class ≡ true))
+use Rattle.code_trace.specs.Given.{IsUnder, IsGiven}
 
 -- an object is of a class of which objects can be made
 abbrev pub IsMade : List Class → Thing → Type 0
@@ -45,14 +37,7 @@ HoldsMade s = AllMade s.classes s.heap
 abbrev pub is_whole : Program → Word → Bool
 is_whole p name = option_map_or (λ c. not (c.head.is_abstract || c.head.is_interface)) (class_in p.classes name) false
 
--- whether a member has a receiver
-abbrev pub has_receiver : Iface → TypedPart → Bool
-has_receiver head (part.Field at) = false
-has_receiver head (part.Method at) = option_map_or (λ method. not (is_static method.kind)) (slice_get head.methods at) false
-has_receiver head (part.Constructor at) = true
-
--- A member of the program's classes is given what it is declared with: so many values, each of its type's kind, and as
--- receiver an object of its class or of one below it
+-- a member of the program's classes is given what it is declared with
 pub record Enters (p : Program) (q : Placed) (vs : List Value) (s : Store) : Type 0 where
   pub class : TypedClass
   pub position : ℕ
@@ -60,8 +45,7 @@ pub record Enters (p : Program) (q : Placed) (vs : List Value) (s : Store) : Typ
   pub head : q.head ≡ class.head
   pub index : ℕ
   pub member_there : slice_get class.members index ≡ Some q.member
-  pub given : are_for q.head q.member.part vs ≡ true
-  pub under : has_receiver q.head q.member.part ≡ true → IsUnder p s vs q.head.name
+  pub given : IsGiven (hier_in p.classes) q.head q.member.part vs s
 
 -- each candidate of a chain is given what it is declared with
 abbrev pub AllEnter : Program → List Candidate → List Value → Store → Type 0
@@ -75,7 +59,7 @@ FitsTarget p head (Constructor m) vs s = (m.name ≡ codes "<init>") × ((q : Pl
 FitsTarget p head (OfClass m) vs s = (class : Word) → receiver_class s vs ≡ Some class → AllEnter p (chain_of p.classes m class) vs s
 FitsTarget p head (OfInterface m) vs s = (class : Word) → receiver_class s vs ≡ Some class → AllEnter p (chain_of p.classes m class) vs s
 FitsTarget p head (OfSuperclass m) vs s =
-    (head.superclass ≡ Some (word_of m.class)) × (is_whole p (word_of m.class) ≡ true) × IsUnder p s vs (word_of m.class) × AllEnter p (chain_of p.classes m (word_of m.class)) vs s
+    (head.superclass ≡ Some (word_of m.class)) × (is_whole p (word_of m.class) ≡ true) × IsUnder (hier_in p.classes) s vs (word_of m.class) × AllEnter p (chain_of p.classes m (word_of m.class)) vs s
 
 -- what a call calls in a state is given what it is declared with
 abbrev pub Fits : Program → Iface → Call → Store → Type 0

@@ -1,5 +1,4 @@
 pub mod Fits
-pub mod Alone
 pub mod Right
 pub mod Laws
 pub mod Headline

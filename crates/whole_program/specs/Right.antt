@@ -36,8 +36,10 @@ use Rattle.jvm_step.specs.Turn.{found_by, wants_static}
 use Rattle.jvm_step.specs.Run.{start}
 use Rattle.code_trace.specs.Calls.{key_of_method}
 use Rattle.code_trace.specs.Entry.{entry}
-use Rattle.whole_program.specs.Fits.{IsUnder, HoldsMade, is_whole, Enters, store_classes}
-use Rattle.whole_program.specs.Alone.{trace_alone, EndsLike, HasTraces}
+use Rattle.code_trace.specs.CodeTrace.{code_trace}
+use Rattle.code_trace.specs.Given.{IsUnder}
+use Rattle.code_trace.specs.OpenTraces.{EndsLike, HasOpenTraces}
+use Rattle.whole_program.specs.Fits.{HoldsMade, is_whole, Enters, store_classes}
 
 -- How many instructions there may be: of a member's own, to begin with and for each turn of a loop; of a helper; and of a
 -- dispatcher with its helpers
@@ -75,7 +77,7 @@ pub record RunsAs (files : List ClassFile) (heap : List Thing) (call : Call) (fi
 
 -- a call runs code with the open traces of a member
 abbrev pub RunsMember : Program → List ClassFile → Bounds → List Thing → Call → Placed → Type 0
-RunsMember p files b heap call q = (file : ClassFile) × (method : MemberInfo) × RunsAs files heap call file method × HasTraces p q file method b.turn
+RunsMember p files b heap call q = (file : ClassFile) × (method : MemberInfo) × RunsAs files heap call file method × HasOpenTraces (hier_in p.classes) q.head q.member file method b.turn
 
 -- a call runs code that answers a value, with no event and no change, in so many instructions at most
 pub record RunsHelper (files : List ClassFile) (call : Call) (s : Store) (v : Value) (most : ℕ) : Type 0 where
@@ -84,7 +86,7 @@ pub record RunsHelper (files : List ClassFile) (call : Call) (s : Store) (v : Va
   pub runs : RunsAs files s.heap call file method
   pub count : ℕ
   pub few : count ≤ most
-  pub trace : (i : List ℕ) → trace_alone file method call.args count [] s i ≡ record { turns = count; events = []; way = Returned v s i }
+  pub trace : (i : List ℕ) → code_trace file method call.args count [] s i ≡ record { turns = count; events = []; way = Returned v s i }
 
 -- the atoms of a guard, from left to right
 abbrev pub atoms_step : Guard-F (List Atom) → List Atom
@@ -120,7 +122,7 @@ pub record Selecting (p : Program) (files : List ClassFile) (m : Method) (class 
   pub declared : has_family p.classes m ≡ true
   pub classes : s.classes ≡ classes_of files
   pub made : HoldsMade s
-  pub under : IsUnder p s vs class
+  pub under : IsUnder (hier_in p.classes) s vs class
   pub shape : Shape
   pub shaped : shape_in p (chain_of p.classes m class) vs s ≡ Some shape
   pub index : ℕ
@@ -175,7 +177,7 @@ pub record RunsDispatcher (p : Program) (files : List ClassFile) (naming : Namin
   pub own : ℕ
   pub few : own + length asked * b.helper ≤ b.dispatch
   pub traces : (i : List ℕ) (rest : List (Answer End)) →
-      (n : ℕ) × IsDispatchOf (trace_alone file method vs n (truths p k.shape asked s i ++ rest) s i)
+      (n : ℕ) × IsDispatchOf (code_trace file method vs n (truths p k.shape asked s i ++ rest) s i)
       (open_trace 0 (truths p k.shape asked s i ++ rest) s i
       (dispatch_does (map (helper_call naming vs) asked) (body_call naming m k.candidate vs) (kind_of_type k.candidate.method.result))) own
 
@@ -206,7 +208,7 @@ pub record StartsMain (p : Program) (files : List ClassFile) (b : Bounds) : Type
   pub method : MemberInfo
   pub method_there : slice_get file.methods at.1 ≡ Some method
   pub enters : entry method [] ≡ Some frame
-  pub has : HasTraces p member file method b.turn
+  pub has : HasOpenTraces (hier_in p.classes) member.head member.member file method b.turn
 
 -- Class files are right for a program: they stand in the order of its classes, with their supertypes and fields; the
 -- machine starts in `main`; each static method and each constructor that is named is found, with the member's open traces;
