@@ -45,7 +45,7 @@ use Rattle.code_trace.specs.OpenTraces.{IsTraceOf, HasOpenTraces}
 use Rattle.code_trace.specs.Calls.{key_of_method, target_in, call_in, event_in}
 use Rattle.code_trace.specs.Entry.{entry}
 use Rattle.whole_program.specs.Fits.{HoldsMade, Enters, AllEnter, FitsTarget, Fits, EachCallFits}
-use Rattle.whole_program.specs.Right.{Bounds, Naming, call_to, RunsMember, RunsHelper, AreAsked, shape_in, question_in, Selecting, helper_call, body_call, truth_value, truths, handed_on, dispatch_does, IsDispatchOf, RunsDispatcher, Reaches, IsRight}
+use Rattle.whole_program.specs.Right.{Bounds, Naming, call_to, RunsMember, RunsHelper, HelpersAnswer, shape_in, question_in, Selecting, helper_call, body_call, truth_value, truths, handed_on, dispatch_does, IsDispatchOf, RunsDispatcher, Reaches, IsRight}
 use Rattle.whole_program.specs.Laws.{fee, EndsAs, Matches, RightKeepsTheMeaning}
 use Rattle.whole_program.proofs.Deep.{member_deep}
 use Rattle.whole_program.proofs.Keeps.{Keeps, play_keeps, member_keeps, calls_keep, OnCame, IsResult, method_result}
@@ -200,7 +200,7 @@ module _ (p : Program) (files : List ClassFile) (naming : Naming) (b : Bounds) (
         (cost : ℕ) × (saved : ℕ) × Script InDispatcher 0 t i o (asks qs (answer_of r)).events (truths p k.shape qs s i ++ answer_of r ∷ []) (asks qs (answer_of r)).way cost saved (after r (fitted k.candidate.method.result (calls p n)))
         × (cost ≡ length qs * b.helper) × (saved ≡ b.dispatch)
 
-    asked_script : (qs : List (Candidate × Atom)) → AreAsked (chain_of p.classes m class) qs → (r : Run Value) → InDispatcher 0 b.dispatch body w0 r → Asked qs r
+    asked_script : (qs : List (Candidate × Atom)) → HelpersAnswer p files naming b k.shape vs s qs → (r : Run Value) → InDispatcher 0 b.dispatch body w0 r → Asked qs r
     asked_script [] all (Came v w) runs =
         let z = same_store s w.store runs.keeps.0 in
         let script = subst (λ (u : Store). Script InDispatcher 0 w.ticks w.input w.out (open_trace {E = End} 0 [] u w.input (handed_on result v)).events [] (open_trace 0 [] u w.input (handed_on result v)).way 0 0 (play (calls p n) (fit result v) w)) (sym z) (handed_script n result v w) in
@@ -209,7 +209,7 @@ module _ (p : Program) (files : List ClassFile) (naming : Naming) (b : Bounds) (
     asked_script (q ∷ qs) all r runs =
         let rest = asked_script qs all.1 r runs in
         let v = truth_value p k.shape q.1 in
-        let h = helped (helper_call naming vs q) s v (static_there (naming.helper q.0 q.1) vs) k.classes (right.helper m class vs s k q all.0) t i o in
+        let h = helped (helper_call naming vs q) s v (static_there (naming.helper q.0 q.1) vs) k.classes all.0 t i o in
         let e : suc (length qs) * b.helper ≡ b.helper + length qs * b.helper = grind arith in
         (b.helper + rest.0, 0 + rest.1, calls_on (helper_call naming vs q) b.helper 0 s v w0 h rest.2, omega (arith, rest.3, e), omega (arith, rest.4))
 
@@ -225,7 +225,7 @@ module _ (p : Program) (files : List ClassFile) (naming : Naming) (b : Bounds) (
         let made = trace_from (acts d.file d.method) at.frame got.0 ans s i in
         let z : code_trace d.file d.method vs got.0 ans s i ≡ made = ap (λ (f : Option Frame). open_trace got.0 ans s i (on_frame f (code_does (acts d.file d.method) got.0))) at.enters in
         let is : IsDispatchOf made T d.own = subst (λ (y : Trace Call End). IsDispatchOf y T d.own) z got.1 in
-        let q = asked_script d.asked d.are_asked r0 (exact n sim body.target (placed k.candidate) vs s (object_there body.target (hier_in p.classes) s vs class k.under) k.enters k.classes k.made (right.body m class vs s k) t i o le b.dispatch 0 (omega arith)) in
+        let q = asked_script d.asked d.helpers r0 (exact n sim body.target (placed k.candidate) vs s (object_there body.target (hier_in p.classes) s vs class k.under) k.enters k.classes k.made d.body t i o le b.dispatch 0 (omega arith)) in
         let s1 = subst (λ (es : List (Event Call)). Script InDispatcher 0 t i o es ans T.way q.0 q.1 whole) (sym is.events) q.2 in
         let s2 = relabel InDispatcher made.way is.way s1 in
         let out = obeys files Fee 0 d.file d.method at.at at.file_there at.method_there callers got.0 at.frame ans s i k.classes 0 t o q.0 q.1 whole s2 in

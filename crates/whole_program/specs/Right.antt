@@ -3,8 +3,6 @@ use Rattle.std.specs.Prelude.{◌≡◌, ◌⊎◌, ℕ, ◌+◌, ◌*◌, ◌�
 use Rattle.std.specs.List.{flat_map}
 use Rattle.class_form.specs.declared.class_file.ClassFile.{ClassFile}
 use Rattle.class_form.specs.declared.member.MemberInfo.{MemberInfo}
-use Rattle.jp_pred.specs.declared.guard.Guard.{Guard, Guard-F, fold-Guard}
-use Rattle.jp_pred.specs.declared.guard.Guard.TheOpen as layer
 use Rattle.jp_pred.specs.declared.guard.Atom.{Atom}
 use Rattle.jp_pred.specs.declared.shape.Shape.{Shape}
 use Rattle.jp_pred.specs.Names.{Word}
@@ -88,26 +86,6 @@ pub record RunsHelper (files : List ClassFile) (call : Call) (s : Store) (v : Va
   pub few : count ≤ most
   pub trace : (i : List ℕ) → code_trace file method call.args count [] s i ≡ record { turns = count; events = []; way = Returned v s i }
 
--- the atoms of a guard, from left to right
-abbrev pub atoms_step : Guard-F (List Atom) → List Atom
-atoms_step layer.True = []
-atoms_step layer.False = []
-atoms_step (layer.And left right) = left ++ right
-atoms_step (layer.Or left right) = left ++ right
-atoms_step (layer.Not inner) = inner
-atoms_step (layer.Atom a) = a ∷ []
-
-abbrev pub atoms_of : Guard → List Atom
-atoms_of = fold-Guard (List Atom) atoms_step
-
--- an atom of the guard of a body of a chain
-abbrev pub IsAsked : List Candidate → Candidate × Atom → Type 0
-IsAsked chain q = (i : ℕ) × (slice_get chain i ≡ Some q.0) × (j : ℕ) × (slice_get (atoms_of q.0.method.guard) j ≡ Some q.1)
-
-abbrev pub AreAsked : List Candidate → List (Candidate × Atom) → Type 0
-AreAsked chain [] = Unit {0}
-AreAsked chain (q ∷ qs) = IsAsked chain q × AreAsked chain qs
-
 -- the shape of a state, as selection in a chain sees it
 abbrev pub shape_in : Program → List Candidate → List Value → Store → Option Shape
 shape_in p chain vs s = shape_of (hier_in p.classes) (root_types (parameters_of chain)) (flat_map (λ c. paths_of c.method.guard) chain) s vs
@@ -165,15 +143,22 @@ pub record IsDispatchOf (made wanted : Trace Call End) (own : ℕ) : Type 0 wher
   pub least : calls_in wanted.events ≤ made.turns
   pub most : made.turns ≤ own
 
--- A call runs a dispatcher for the selected body: where its helpers are answered by the truth of the atoms, its trace is
--- calls of helpers, and then one call of the body with the same receiver and arguments, whose answer it returns. It and
--- the helpers make so many instructions at most
+-- each helper that is asked answers the truth of its atom
+abbrev pub HelpersAnswer : Program → List ClassFile → Naming → Bounds → Shape → List Value → Store → List (Candidate × Atom) → Type 0
+HelpersAnswer p files naming b shape vs s [] = Unit {0}
+HelpersAnswer p files naming b shape vs s (q ∷ qs) =
+    RunsHelper files (helper_call naming vs q) s (truth_value p shape q.1) b.helper × HelpersAnswer p files naming b shape vs s qs
+
+-- A call runs a dispatcher for the selected body: its trace is calls of helpers, each of which answers the truth of an atom,
+-- and then one call of the body with the same receiver and arguments, whose answer it returns. It and the helpers make so
+-- many instructions at most
 pub record RunsDispatcher (p : Program) (files : List ClassFile) (naming : Naming) (b : Bounds) (m : Method) (class : Word) (vs : List Value) (s : Store) (k : Selecting p files m class vs s) (call : Call) : Type 0 where
   pub file : ClassFile
   pub method : MemberInfo
   pub runs : RunsAs files s.heap call file method
   pub asked : List (Candidate × Atom)
-  pub are_asked : AreAsked (chain_of p.classes m class) asked
+  pub helpers : HelpersAnswer p files naming b k.shape vs s asked
+  pub body : RunsMember p files b s.heap (body_call naming m k.candidate vs) (placed k.candidate)
   pub own : ℕ
   pub few : own + length asked * b.helper ≤ b.dispatch
   pub traces : (i : List ℕ) (rest : List (Answer End)) →
@@ -212,8 +197,7 @@ pub record StartsMain (p : Program) (files : List ClassFile) (b : Bounds) : Type
 
 -- Class files are right for a program: they stand in the order of its classes, with their supertypes and fields; the
 -- machine starts in `main`; each static method and each constructor that is named is found, with the member's open traces;
--- each body is found under its name, likewise; each helper answers the truth of its atom; and each call of a family, by
--- the receiver's class or above a class, comes to the body that is selected
+-- and each call of a family, by the receiver's class or above a class, comes to the body that is selected
 pub record IsRight (p : Program) (files : List ClassFile) (naming : Naming) (b : Bounds) : Type 0 where
   pub classes : classes_of files ≡ store_classes p
   pub main : StartsMain p files b
@@ -221,10 +205,6 @@ pub record IsRight (p : Program) (files : List ClassFile) (naming : Naming) (b :
       RunsMember p files b s.heap (call_to (StaticMethod (key_of_method m)) vs) q
   pub constructor : (m : Method) (q : Placed) → m.name ≡ codes "<init>" → constructor_named p.classes m ≡ Some q → (vs : List Value) (s : Store) → s.classes ≡ classes_of files → Enters p q vs s →
       RunsMember p files b s.heap (call_to (Constructor (key_of_method m)) vs) q
-  pub body : (m : Method) (class : Word) (vs : List Value) (s : Store) (k : Selecting p files m class vs s) →
-      RunsMember p files b s.heap (body_call naming m k.candidate vs) (placed k.candidate)
-  pub helper : (m : Method) (class : Word) (vs : List Value) (s : Store) (k : Selecting p files m class vs s) (q : Candidate × Atom) → IsAsked (chain_of p.classes m class) q →
-      RunsHelper files (helper_call naming vs q) s (truth_value p k.shape q.1) b.helper
   pub virtual : (m : Method) (class : Word) (vs : List Value) (s : Store) (k : Selecting p files m class vs s) → receiver_class s vs ≡ Some class →
       Reaches p files naming b m class vs s k (call_to (VirtualMethod m.name m.descriptor) vs)
   pub above : (c : TypedClass) (position : ℕ) → slice_get p.classes position ≡ Some c →
