@@ -1,5 +1,5 @@
 -- An entry that is put is held as a constant.
-use Rattle.std.proofs.Common.{◌≡◌, ℕ, ◌+◌, ◌<◌, ℤ, Bool, true, false, not, ◌||◌, cond, if◌then◌else◌, List, [], ◌∷◌, ◌++◌, length, map, ◌≤◌, refl, sym, ap, ◌∙◌, subst, arith, true≢false, rules}
+use Rattle.std.proofs.Common.{◌≡◌, ◌+◌, ℤ, Bool, true, false, not, ◌||◌, cond, if◌then◌else◌, List, [], ◌∷◌, ◌++◌, length, ◌≤◌, refl, sym, ap, ◌∙◌, subst, arith, true≢false}
 use Rattle.std.proofs.lemmas.List.{map-append, length-append, length-map, append_assoc}
 use Rattle.std.proofs.lemmas.List.Folds.{list_any-append}
 use Rattle.std.specs.List.{list_any, position_or_len}
@@ -10,7 +10,7 @@ use Rattle.code_asm.specs.declared.entry.Entry.{Entry}
 use Rattle.code_asm.specs.declared.entry.Entry.TheVariants.{Utf8 as Utf8Entry, Integer as IntegerEntry, Long as LongEntry, Class as ClassEntry, Literal, Field, Method, InterfaceMethod, NameAndType as NameAndTypeEntry, Behind}
 use Rattle.code_asm.specs.declared.fault.AsmFault.{AsmFault}
 use Rattle.code_asm.specs.declared.fault.AsmFault.TheVariants.{Full, TooLong, FarJump, OutOfMemory}
-use Rattle.code_asm.specs.Held.{Held, is_same, with_rest, hold, Fails}
+use Rattle.code_asm.specs.Held.{is_same, with_rest, hold, Fails}
 use Rattle.code_asm.specs.Entries.{const_of, consts_of, is_single, is_equal, with_entry, ArePaired, GoOn}
 
 -- a test of entries that is one of their constants

@@ -1,3 +1,5 @@
 mod Chains
 mod Holding
+mod Keeping
+pub mod Laying
 pub mod Parts

@@ -10,7 +10,6 @@ use Rattle.code_asm.specs.declared.entry.MemberKind.{MemberKind}
 use Rattle.code_asm.specs.declared.entry.MemberKind.TheVariants.{Field as FieldKind, Method as MethodKind, InterfaceMethod as InterfaceMethodKind}
 use Rattle.code_asm.specs.contracts.entry.EntryPartialEq.TheImpl as entry
 use Rattle.code_asm.specs.declared.fault.AsmFault.{AsmFault}
-use Rattle.code_asm.specs.declared.fault.AsmFault.TheVariants.{Full, TooLong, FarJump, OutOfMemory}
 use Rattle.code_asm.specs.Held.{Held, Fails}
 
 -- the constant that an entry is

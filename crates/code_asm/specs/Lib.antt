@@ -1,3 +1,5 @@
 pub mod Entries
 pub mod Held
 pub mod Items
+pub mod Kept
+pub mod Pieces

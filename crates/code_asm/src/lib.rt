@@ -2,9 +2,11 @@
 //! second edition, 4.4 and chapter 6).
 #![tactic(auto)]
 
+mod asm;
 mod entry;
 mod fault;
 mod pool;
 
+pub use asm::{Asm, Label};
 pub use fault::AsmFault;
 pub use pool::Pool;

@@ -1,7 +1,6 @@
-use Rattle.std.proofs.Common.{◌≡◌, ℕ, ◌+◌, ◌<◌, length, ◌∙◌, sym, ap, subst, arith}
+use Rattle.std.proofs.Common.{length, ap, arith}
 use Rattle.std.proofs.lemmas.List.{length-map}
-use Rattle.class_form.specs.declared.constant.Const.{Const}
-use Rattle.code_asm.specs.Entries.{const_of, consts_of, with_entry}
+use Rattle.code_asm.specs.Entries.{const_of, with_entry}
 use Rattle.code_asm.proofs.pool.put_entry.Goals as goal
 
 pub returns-then-len-gt-ROOM-clause-put : goal.returns-then-len-gt-ROOM-clause-put
