@@ -1,5 +1,8 @@
 mod Chains
 mod Holding
 mod Keeping
-pub mod Laying
+mod Laying
+mod Naming
 pub mod Parts
+mod Rows
+mod Standing

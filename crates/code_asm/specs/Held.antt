@@ -5,6 +5,7 @@ use Rattle.std.specs.Str.{bytes_eq}
 use Rattle.std.specs.Ordering.{int_eq}
 use Rattle.class_form.specs.declared.constant.Const.{Const}
 use Rattle.class_form.specs.declared.constant.Const.TheVariants.{Unused, Utf8, Integer, Long, Class, Text, Fieldref, Methodref, InterfaceMethodref, NameAndType}
+use Rattle.class_form.specs.declared.class_file.ClassFile.{ClassFile}
 use Rattle.class_form.specs.WellFormed.{is_wide}
 use Rattle.code_asm.specs.declared.fault.AsmFault.{AsmFault}
 use Rattle.code_asm.specs.declared.fault.AsmFault.TheVariants.{Full, TooLong, FarJump, OutOfMemory}
@@ -65,3 +66,11 @@ Fails (FarJump distance) wanted = ⊥
 abbrev pub Answers : Held → List Const → List Const → Result ℕ AsmFault → Type 0
 Answers held old new (Ok index) = (new ≡ held.constants) × (index ≡ held.index) × (1 + length new < 65536)
 Answers held old new (Err fault) = (new ≡ old) × Fails fault held.constants
+
+-- constants go on: what was there keeps its index
+abbrev pub Extends : List Const → List Const → Type 0
+Extends old new = (more : List Const) × (new ≡ old ++ more)
+
+-- it is so in each class file with these constants and perhaps more behind them
+abbrev pub InFiles : List Const → (ClassFile → Type 0) → Type 0
+InFiles list P = (file : ClassFile) (more : List Const) → file.constants ≡ Unused ∷ (list ++ more) → P file

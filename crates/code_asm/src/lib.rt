@@ -5,8 +5,10 @@
 mod asm;
 mod entry;
 mod fault;
+mod laws;
 mod pool;
 
 pub use asm::{Asm, Label};
 pub use fault::AsmFault;
+pub use laws::items_stand;
 pub use pool::Pool;

@@ -1,6 +1,8 @@
-ghost use Rattle.std.specs.Prelude.{◌≡◌, true, [], ◌∷◌, take, IfOk, MatchResult};
+ghost use Rattle.std.specs.Prelude.{◌≡◌, true, [], ◌∷◌, take, IfOk, MatchResult, slice_get};
 ghost use Rattle.class_form.specs.declared.constant.Const.TheVariants.{Unused, Utf8, Integer as IntegerConst, Long as LongConst, Fieldref, Methodref, InterfaceMethodref};
-ghost use Rattle.code_asm.specs.Held.{hold, hold_class, hold_text, hold_name_and_type, hold_member, Answers};
+ghost use Rattle.class_form.specs.Constants.{utf8_at, class_name_at};
+ghost use Rattle.jvm_table.specs.Constants.{field_in, method_in, interface_method_in, member_named, literal_at};
+ghost use Rattle.code_asm.specs.Held.{hold, hold_class, hold_text, hold_name_and_type, hold_member, Answers, Extends, InFiles};
 ghost use Rattle.code_asm.specs.Entries.{const_of, consts_of, is_single, kind_of, ArePaired, PutsEntry, GoOn, Puts};
 
 use crate::AsmFault;
@@ -43,7 +45,9 @@ impl Pool {
 
     /// The index of a text.
     pub fn utf8(&mut self, alloc: Global, bytes: &[u8]) -> Result<u16, AsmFault>
-        ensures { Answers (hold self.old (Utf8 bytes.now)) self.old self.new result }
+        ensures held { Answers (hold self.old (Utf8 bytes.now)) self.old self.new result }
+        ensures kept { Extends self.old self.new }
+        ensures named { IfOk result (λ index. InFiles self.new (λ file. utf8_at file index ≡ Some bytes.now)) }
     {
         let len = self.entries.len();
         let answer = put_text(alloc, &mut self.entries, bytes);
@@ -52,7 +56,9 @@ impl Pool {
 
     /// The index of the class of a name.
     pub fn class(&mut self, alloc: Global, name: &[u8]) -> Result<u16, AsmFault>
-        ensures { Answers (hold_class self.old name.now) self.old self.new result }
+        ensures held { Answers (hold_class self.old name.now) self.old self.new result }
+        ensures kept { Extends self.old self.new }
+        ensures named { IfOk result (λ index. InFiles self.new (λ file. class_name_at file index ≡ Some name.now)) }
     {
         let len = self.entries.len();
         let answer = put_class(alloc, &mut self.entries, name);
@@ -67,7 +73,9 @@ impl Pool {
         name: &[u8],
         descriptor: &[u8],
     ) -> Result<u16, AsmFault>
-        ensures { Answers (hold_member Fieldref self.old class.now name.now descriptor.now) self.old self.new result }
+        ensures held { Answers (hold_member Fieldref self.old class.now name.now descriptor.now) self.old self.new result }
+        ensures kept { Extends self.old self.new }
+        ensures named { IfOk result (λ index. InFiles self.new (λ file. member_named field_in file index ≡ Some (record { class = class.now; name = name.now; descriptor = descriptor.now }))) }
     {
         let len = self.entries.len();
         let answer = put_member(
@@ -89,7 +97,9 @@ impl Pool {
         name: &[u8],
         descriptor: &[u8],
     ) -> Result<u16, AsmFault>
-        ensures { Answers (hold_member Methodref self.old class.now name.now descriptor.now) self.old self.new result }
+        ensures held { Answers (hold_member Methodref self.old class.now name.now descriptor.now) self.old self.new result }
+        ensures kept { Extends self.old self.new }
+        ensures named { IfOk result (λ index. InFiles self.new (λ file. member_named method_in file index ≡ Some (record { class = class.now; name = name.now; descriptor = descriptor.now }))) }
     {
         let len = self.entries.len();
         let answer = put_member(
@@ -111,7 +121,9 @@ impl Pool {
         name: &[u8],
         descriptor: &[u8],
     ) -> Result<u16, AsmFault>
-        ensures { Answers (hold_member InterfaceMethodref self.old class.now name.now descriptor.now) self.old self.new result }
+        ensures held { Answers (hold_member InterfaceMethodref self.old class.now name.now descriptor.now) self.old self.new result }
+        ensures kept { Extends self.old self.new }
+        ensures named { IfOk result (λ index. InFiles self.new (λ file. member_named interface_method_in file index ≡ Some (record { class = class.now; name = name.now; descriptor = descriptor.now }))) }
     {
         let len = self.entries.len();
         let answer = put_member(
@@ -127,7 +139,9 @@ impl Pool {
 
     /// The index of an int.
     pub fn integer(&mut self, value: i32) -> Result<u16, AsmFault>
-        ensures { Answers (hold self.old (IntegerConst value)) self.old self.new result }
+        ensures held { Answers (hold self.old (IntegerConst value)) self.old self.new result }
+        ensures kept { Extends self.old self.new }
+        ensures named { IfOk result (λ index. InFiles self.new (λ file. slice_get file.constants index ≡ Some (IntegerConst value))) }
     {
         let len = self.entries.len();
         let answer = put(&mut self.entries, Entry::Integer(value));
@@ -136,7 +150,9 @@ impl Pool {
 
     /// The index of a long, which takes the next index too.
     pub fn long(&mut self, value: i64) -> Result<u16, AsmFault>
-        ensures { Answers (hold self.old (LongConst value)) self.old self.new result }
+        ensures held { Answers (hold self.old (LongConst value)) self.old self.new result }
+        ensures kept { Extends self.old self.new }
+        ensures named { IfOk result (λ index. InFiles self.new (λ file. slice_get file.constants index ≡ Some (LongConst value))) }
     {
         let len = self.entries.len();
         let answer = put_long(&mut self.entries, value);
@@ -145,7 +161,9 @@ impl Pool {
 
     /// The index of a string literal.
     pub fn text(&mut self, alloc: Global, bytes: &[u8]) -> Result<u16, AsmFault>
-        ensures { Answers (hold_text self.old bytes.now) self.old self.new result }
+        ensures held { Answers (hold_text self.old bytes.now) self.old self.new result }
+        ensures kept { Extends self.old self.new }
+        ensures named { IfOk result (λ index. InFiles self.new (λ file. literal_at file index ≡ Some bytes.now)) }
     {
         let len = self.entries.len();
         let answer = put_literal(alloc, &mut self.entries, bytes);
