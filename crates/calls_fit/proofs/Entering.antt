@@ -22,9 +22,9 @@ use Rattle.jp_meaning.specs.Descriptors.{word_of, internal_name, method_of, cons
 use Rattle.jp_meaning.specs.Expressions.{are_of}
 use Rattle.jp_meaning.specs.Classes.{Placed, Candidate, placed, is_body, is_static, hier_in, chain_of, static_named, constructor_named}
 use Rattle.jp_meaning.specs.Run.{Program, receiver_class}
-use Rattle.code_trace.specs.OpenTraces.{are_given, are_for}
+use Rattle.code_trace.specs.Given.{are_given, are_for, has_receiver, IsUnder}
 use Rattle.gen_body.specs.Names.{are_nameable, is_result}
-use Rattle.whole_program.specs.Fits.{IsUnder, Enters, AllEnter, has_receiver}
+use Rattle.whole_program.specs.Fits.{Enters, AllEnter}
 use Rattle.calls_fit.specs.Fitting.{ProgramFits, ClassFits, method_fits}
 use Rattle.calls_fit.proofs.Named.{first_true, second_true, in_get, get_in, all_in, IsOf, through, in_chain, static_of, maker_of}
 use Rattle.calls_fit.proofs.SameKinds.{same_kinds}
@@ -34,7 +34,7 @@ module _ (p : Program) (f : ProgramFits p) where
   class_fits c h = let g = get_in h in f.each g.0 c g.1
 
   -- an object of a class that is below another is under that
-  pub is_under : (s : Store) (vs : List Value) (own class : Word) → receiver_class s vs ≡ Some own → IsBelow (hier_in p.classes) own class → IsUnder p s vs class
+  pub is_under : (s : Store) (vs : List Value) (own class : Word) → receiver_class s vs ≡ Some own → IsBelow (hier_in p.classes) own class → IsUnder (hier_in p.classes) s vs class
   is_under s vs own class e h = (own, e, inr ((exactly_below (hier_in p.classes) own class (is_below (hier_in p.classes) own class) f.acyclic refl).1 h))
 
   pub is_below_so : (own class : Word) → (own ≡ class) ⊎ (is_below (hier_in p.classes) own class ≡ true) → IsBelow (hier_in p.classes) own class
@@ -64,7 +64,7 @@ module _ (p : Program) (f : ProgramFits p) where
     receiver_is : has_receiver c.head c.member.part ≡ not (is_static c.method.kind)
     receiver_is = ap (has_receiver c.head) o.part_is ∙ ap (λ (x : Option IfaceMethod). option_map_or (λ method. not (is_static method.kind)) x false) o.method_there
 
-    entering : (vs : List Value) (s : Store) → cond (is_static c.method.kind) (are_of c.method.params vs) (are_given c.method.params vs) ≡ true → (not (is_static c.method.kind) ≡ true → IsUnder p s vs c.head.name) → Enters p (placed c) vs s
+    entering : (vs : List Value) (s : Store) → cond (is_static c.method.kind) (are_of c.method.params vs) (are_given c.method.params vs) ≡ true → (not (is_static c.method.kind) ≡ true → IsUnder (hier_in p.classes) s vs c.head.name) → Enters p (placed c) vs s
     entering vs s h under = record {
       class = class;
       position = (get_in there).0;
@@ -72,12 +72,11 @@ module _ (p : Program) (f : ProgramFits p) where
       head = o.head_is;
       index = (get_in inside).0;
       member_there = (get_in inside).1 ∙ ap (λ (m : TypedMember). Some m) (sym o.member_is);
-      given = for_part vs h;
-      under = λ e. under (sym receiver_is ∙ e);
+      given = record { kinds = for_part vs h; receiver = λ e. under (sym receiver_is ∙ e) };
     }
 
     -- a body, on a receiver
-    pub body_enters : ((k : MethodKind) → of_kind k ≡ true → is_static k ≡ false) → (k : ℕ) (vs : List Value) (s : Store) → are_of params vs ≡ true → IsUnder p s (Ref k ∷ vs) c.head.name → Enters p (placed c) (Ref k ∷ vs) s
+    pub body_enters : ((k : MethodKind) → of_kind k ≡ true → is_static k ≡ false) → (k : ℕ) (vs : List Value) (s : Store) → are_of params vs ≡ true → IsUnder (hier_in p.classes) s (Ref k ∷ vs) c.head.name → Enters p (placed c) (Ref k ∷ vs) s
     body_enters bodies k vs s h under =
         entering (Ref k ∷ vs) s (ap (λ (b : Bool). cond b (are_of c.method.params (Ref k ∷ vs)) (are_given c.method.params (Ref k ∷ vs))) (bodies c.method.kind o.kind) ∙ taken vs h) (λ e. under)
 
@@ -109,7 +108,7 @@ module _ (p : Program) (f : ProgramFits p) where
       subst (λ (x : Placed). Enters p x vs s) g.5 (static_enters is_static g.0 g.1 name target params result named given g.2 g.3 g.4 g.6 (λ k x. x) vs s h)
 
   -- a constructor, on an object of its class or of one below it
-  pub maker_enters : (target : Word) (params : List Ty) → are_nameable params ≡ true → (k : ℕ) (vs : List Value) (s : Store) → are_of params vs ≡ true → IsUnder p s (Ref k ∷ vs) (word_of (internal_name target)) →
+  pub maker_enters : (target : Word) (params : List Ty) → are_nameable params ≡ true → (k : ℕ) (vs : List Value) (s : Store) → are_of params vs ≡ true → IsUnder (hier_in p.classes) s (Ref k ∷ vs) (word_of (internal_name target)) →
       (q : Placed) → constructor_named p.classes (constructor_of target params) ≡ Some q → Enters p q (Ref k ∷ vs) s
   maker_enters target params named k vs s h under q e =
       let g = maker_of p.classes (constructor_of target params) q e in
@@ -124,7 +123,9 @@ module _ (p : Program) (f : ProgramFits p) where
         head = g.head_is;
         index = (get_in g.member_there).0;
         member_there = (get_in g.member_there).1;
-        given = ap (λ (x : TypedPart). are_for q.head x (Ref k ∷ vs)) g.part_is
-            ∙ ap (λ (x : Option (List Ty)). option_map_or (λ params. are_given params (Ref k ∷ vs)) x false) g.params_there ∙ own;
-        under = λ e. subst (IsUnder p s (Ref k ∷ vs)) (sym (ap (λ (x : Iface). x.name) g.head_is ∙ g.name)) under;
+        given = record {
+          kinds = ap (λ (x : TypedPart). are_for q.head x (Ref k ∷ vs)) g.part_is
+              ∙ ap (λ (x : Option (List Ty)). option_map_or (λ params. are_given params (Ref k ∷ vs)) x false) g.params_there ∙ own;
+          receiver = λ e. subst (IsUnder (hier_in p.classes) s (Ref k ∷ vs)) (sym (ap (λ (x : Iface). x.name) g.head_is ∙ g.name)) under;
+        };
       }

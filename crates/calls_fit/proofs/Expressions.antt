@@ -29,7 +29,8 @@ use Rattle.jp_does.specs.OpenTrace.{rest_of}
 use Rattle.std.specs.Fmt.{signed_decimal}
 use Rattle.jp_meaning.specs.Run.{World, Program, class_of_value, receiver_class, write}
 use Rattle.gen_body.specs.Names.{are_nameable, is_result}
-use Rattle.whole_program.specs.Fits.{Fits, IsUnder, is_whole}
+use Rattle.code_trace.specs.Given.{IsUnder}
+use Rattle.whole_program.specs.Fits.{Fits, is_whole}
 use Rattle.calls_fit.specs.Fitting.{ProgramFits, Checked, all_fit, is_whole_above, expr_step, check}
 use Rattle.calls_fit.proofs.Named.{first_true, second_true, first_of, second_of, both_are, is_parent, through}
 use Rattle.calls_fit.proofs.Entering.{is_under, is_below_so, chain_enters, static_call_enters, maker_enters}
@@ -70,7 +71,7 @@ module _ (p : Program) (f : ProgramFits p) (n : ℕ) (head : Iface) (at : Inside
   on_receiver ks target (Text t) vs w i h = tt
 
   -- a constructor on an object of its class or of one below it
-  pub construct_sure : (ks : List (Value × Word)) (class : Word) (params : List Ty) (o : Value) (vs : List Value) (w : World) → are_nameable params ≡ true → H ks w → ((k : ℕ) → o ≡ Ref k → IsUnder p w.store (Ref k ∷ vs) (word_of (internal_name class))) → S (construct class params o vs) w (λ v u. H ks u)
+  pub construct_sure : (ks : List (Value × Word)) (class : Word) (params : List Ty) (o : Value) (vs : List Value) (w : World) → are_nameable params ≡ true → H ks w → ((k : ℕ) → o ≡ Ref k → IsUnder (hier_in p.classes) w.store (Ref k ∷ vs) (word_of (internal_name class))) → S (construct class params o vs) w (λ v u. H ks u)
   construct_sure ks class params o vs w named i under =
       so_sure p n head (are_of params vs) (cond (same class object) (construct_object params o) (calls_on (Constructor (constructor_of class params)) o vs)) w (λ v u. H ks u) (λ given.
       cond_sure p n head (same class object) (construct_object params o) (calls_on (Constructor (constructor_of class params)) o vs) w (λ v u. H ks u) (object_sure params)

@@ -30,7 +30,8 @@ use Rattle.jp_meaning.specs.Statements.{Left, Goes, Breaks, Continues, Returned,
 use Rattle.jp_meaning.specs.Members.{step_type, read_steps, read_path, read_alias, read_aliases, locals_of, leaves, returned, super_first, statements_do, part_does}
 use Rattle.jp_meaning.specs.Classes.{Placed, hier_in, class_in}
 use Rattle.jp_meaning.specs.Run.{World, Program, class_of_value, placed_does}
-use Rattle.whole_program.specs.Fits.{Enters, CallsFit, has_receiver, store_classes}
+use Rattle.code_trace.specs.Given.{has_receiver}
+use Rattle.whole_program.specs.Fits.{Enters, CallsFit, store_classes}
 use Rattle.gen_body.specs.Names.{are_nameable}
 use Rattle.calls_fit.specs.Fitting.{ProgramFits, ClassFits, all_fit, check, stmt_fits, member_fits}
 use Rattle.calls_fit.specs.Laws.{CallsOfFittingPrograms}
@@ -162,7 +163,7 @@ module _ (p : Program) (f : ProgramFits p) (n k : ℕ) (q : Placed) (vs : List V
     by_first own right (Some this) g h = with_receiver this own (λ x. right) (λ x. g) (λ x. h)
 
     by_receiver : (b : Bool) → has_receiver q.head q.member.part ≡ b → CallsFit p n q.head (placed_does p k q vs) w
-    by_receiver true h = let u = e.under h in by_first u.0 u.2 (slice_get vs 0) refl u.1
+    by_receiver true h = let u = e.given.receiver h in by_first u.0 u.2 (slice_get vs 0) refl u.1
     by_receiver false h = with_receiver Null [] (λ x. none_left (sym h ∙ x)) (λ x. none_left (sym h ∙ x)) (λ x. none_left (sym h ∙ x))
 
 pub calls_fit : CallsOfFittingPrograms

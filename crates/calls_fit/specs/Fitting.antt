@@ -19,7 +19,8 @@ use Rattle.jp_meaning.specs.Descriptors.{internal_name, word_of}
 use Rattle.jp_meaning.specs.Classes.{hier_in, class_in}
 use Rattle.jp_meaning.specs.Run.{Program}
 use Rattle.gen_body.specs.Names.{are_nameable, is_result}
-use Rattle.whole_program.specs.Fits.{is_whole, has_receiver}
+use Rattle.code_trace.specs.Given.{has_receiver}
+use Rattle.whole_program.specs.Fits.{is_whole}
 
 -- what is found of an expression: whether it fits, and whether it is the first local, which holds the receiver
 pub record Checked : Type 0 where
