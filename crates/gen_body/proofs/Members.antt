@@ -4,6 +4,8 @@ use Rattle.std.specs.Prelude.{Bool, true, false, ◌&&◌, is_some, slice_get, c
 use Rattle.std.specs.Option.{option_map_or}
 use Rattle.std.proofs.lemmas.Bool.{false≢true}
 use Rattle.std.proofs.lemmas.List.{append-nil}
+use Rattle.class_form.specs.declared.class_file.ClassFile.{ClassFile}
+use Rattle.class_form.specs.declared.member.MemberInfo.{MemberInfo}
 use Rattle.jp_pred.specs.declared.ty.Ty.{Ty}
 use Rattle.jp_pred.specs.declared.hier.Hier.{Hier}
 use Rattle.jp_pred.specs.Names.{Word}
@@ -32,6 +34,7 @@ use Rattle.jp_meaning.specs.Run.{receiver_class}
 use Rattle.jvm_table.specs.declared.frame.Frame.{Frame}
 use Rattle.jvm_table.specs.declared.instr.Instr.TheVariants.{ReturnVoid}
 use Rattle.jvm_table.specs.Act.{Leaves, is_same_kind, result_kind, leaves_with, leaves_void, where_so as where_row}
+use Rattle.code_trace.specs.Entry.{entry}
 use Rattle.code_trace.specs.CodeTrace.{on_frame, code_does}
 use Rattle.code_trace.specs.Given.{are_given, are_for, has_receiver}
 use Rattle.code_trace.specs.OpenTraces.{IsTraceOf}
@@ -40,7 +43,7 @@ use Rattle.code_trace.proofs.Follow.{ending as ending_all, stop as stop_at}
 use Rattle.code_trace.proofs.Traces.{traces}
 use Rattle.gen_body.specs.Statements.{block_code}
 use Rattle.gen_body.specs.Members.{given_to, super_code, aliases_code, end_code, framed, method_code, part_code, member_code}
-use Rattle.gen_body.specs.Correct.{result_of, slots_of, CompiledHasOpenTraces}
+use Rattle.gen_body.specs.Correct.{result_of, slots_of, IsCodeOf, CompiledHasOpenTraces}
 use Rattle.gen_body.proofs.Going.{Setting, run, at, Standing, standing, parted, Held_still, Going, from_here, seq, stop}
 use Rattle.gen_body.proofs.Blocks.{Room, at_row, IsOver}
 use Rattle.gen_body.proofs.Statements.{After, block_makes}
@@ -190,20 +193,31 @@ given_first s own m (Int n ∷ vs) e = absurd (false≢true (ap is_some e))
 given_first s own m (Long n ∷ vs) e = absurd (false≢true (ap is_some e))
 given_first s own m (Text t ∷ vs) e = absurd (false≢true (ap is_some e))
 
+-- a member's code in a method, given these values
+abbrev setting_of : (hier : Hier) (head : Iface) (m : TypedMember) (file : ClassFile) (method : MemberInfo) → IsCodeOf hier head m file method → ℕ → List Value → Setting
+setting_of hier head m file method is more vs = record {
+  file = file;
+  method = method;
+  code = is.code;
+  has = is.has;
+  current = internal_name head.name;
+  this = is.this;
+  more = more;
+  place = is.place;
+  received = has_receiver head m.part;
+  receiver = number_of vs;
+}
+
+-- a method with the code of a member begins with what the member is given
+pub code_enters : (hier : Hier) (head : Iface) (m : TypedMember) (file : ClassFile) (method : MemberInfo) → IsCodeOf hier head m file method → (vs : List Value) → are_for head m.part vs ≡ true → (f : Frame) × (entry method vs ≡ Some f)
+code_enters hier head m file method is vs given =
+    let w = setting_of hier head m file method is 0 vs in
+    let fits = given_fits head m.part vs m.locals given is.slots in
+    (at w 0 (locals_of m vs) [], entry_is w m vs is.locals fits.0 fits.1)
+
 pub open_traces : CompiledHasOpenTraces
 open_traces hier head m file method more is keeps size = λ vs s given t answers i.
-    let w : Setting = record {
-      file = file;
-      method = method;
-      code = is.code;
-      has = is.has;
-      current = internal_name head.name;
-      this = is.this;
-      more = more;
-      place = is.place;
-      received = has_receiver head m.part;
-      receiver = number_of vs;
-    } in
+    let w = setting_of hier head m file method is more vs in
     let d = member_does hier head m (suc t) vs in
     let f = at w 0 (locals_of m vs) [] in
     let fits = given_fits head m.part vs m.locals given.kinds is.slots in

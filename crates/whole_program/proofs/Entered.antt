@@ -30,7 +30,7 @@ same_refl : (b : Bool) → same_truth b b ≡ true
 same_refl true = refl
 same_refl false = refl
 
-abbrev running : ℕ × ℕ → Frame → Running
+abbrev pub running : ℕ × ℕ → Frame → Running
 running at frame = record { file = at.0; method = at.1; frame = frame }
 
 entered_same : (at : ℕ × ℕ) (args : List Value) (o : Option Code) →
@@ -43,7 +43,7 @@ entered_same at args (Some code) = by_room (alone.variables code.max_locals (alo
   by_room (Some locals) = refl
 
 -- the machine enters the method that a call finds
-entry_of : (files : List ClassFile) (c : Call) (at : ℕ × ℕ) (file : ClassFile) (me : MemberInfo) (frame : Frame) → slice_get files at.0 ≡ Some file → slice_get file.methods at.1 ≡ Some me → is_static me ≡ wants_static c.target → alone.entry me c.args ≡ Some frame →
+pub entry_of : (files : List ClassFile) (c : Call) (at : ℕ × ℕ) (file : ClassFile) (me : MemberInfo) (frame : Frame) → slice_get files at.0 ≡ Some file → slice_get file.methods at.1 ≡ Some me → is_static me ≡ wants_static c.target → alone.entry me c.args ≡ Some frame →
     step_of.entry files (wants_static c.target) c.args at ≡ Some (running at frame)
 entry_of files c at file me frame a b role e =
     ap (λ (o : Option ClassFile). option_and_then (λ file. option_and_then enters (slice_get file.methods at.1)) o) a

@@ -1,0 +1,6 @@
+//! Class files that are compiled class by class are right for their program.
+#![tactic(auto)]
+
+mod laws;
+
+pub use laws::{compiled_is_right, compiled_keeps_the_meaning, compiled_runs_member};
