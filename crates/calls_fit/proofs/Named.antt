@@ -26,7 +26,7 @@ use Rattle.jp_meaning.specs.Does.{Method}
 use Rattle.jp_meaning.specs.Descriptors.{word_of, method_descriptor}
 use Rattle.jp_meaning.specs.Classes.{Placed, Candidate, placed, is_body, is_named, as_method, as_named, methods_in, as_constructor, constructor_named, static_named, is_static, class_in, hier_in, upwards, chain_of}
 
-some_is : {X : Type 0} (x y : X) → Some x ≡ Some y → x ≡ y
+pub some_is : {X : Type 0} (x y : X) → Some x ≡ Some y → x ≡ y
 some_is {X = X} x y e = ap (λ (o : Option X). unwrap_or o x) e
 
 pub none_is : {X A : Type 0} (x : X) → None ≡ Some x → A

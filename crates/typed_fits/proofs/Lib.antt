@@ -1,0 +1,11 @@
+pub mod CheckedForms
+pub mod Looking
+pub mod SeenFits
+pub mod FlowFits
+pub mod MemberFits
+pub mod Rules
+pub mod UnitFits
+pub mod WordsOfExpressions
+pub mod WordsOfGuards
+pub mod WordsOfStatements
+pub mod ReadNames
