@@ -5,14 +5,17 @@ use Rattle.jp_pred.specs.declared.ty.Ty.{Ty}
 use Rattle.jp_ast.specs.declared.token.Place.{Place}
 use Rattle.jp_ast.specs.declared.token.Token.{Token}
 use Rattle.jp_ast.specs.declared.expr.Expr.{Expr}
+use Rattle.jp_ast.specs.declared.guard.GuardExpr.{GuardExpr}
 use Rattle.jp_ast.specs.declared.sign.TheConstants as sign
 use Rattle.jp_grammar.specs.declared.fault.ParseFault.{ParseFault}
 use Rattle.jp_grammar.specs.Kinds.{Tokens, IsSign}
 use Rattle.jp_grammar.specs.Trees.{array_at}
 use Rattle.jp_grammar.specs.Expressions.{Expression, Steps, NoBracket}
-use Rattle.jp_grammar.specs.Depth.{depth}
+use Rattle.jp_grammar.specs.Guards.{Guard}
+use Rattle.jp_grammar.specs.Depth.{depth, guard_depth}
 use Rattle.jp_grammar.specs.Behind.{ends_full, ends_level}
 use Rattle.jp_grammar.specs.Reading.{Reads, Found, FailsWithin, Gives}
+use Rattle.jp_parse_expr.specs.BehindGuards.{ends_guard}
 
 -- what a function answers that reads an expression: the tree, its depth and the tokens behind it, or the fault
 abbrev pub Read : Type 0
@@ -37,3 +40,9 @@ ArraySteps at l xs t zs = NoBracket xs × Steps at l xs t zs
 abbrev pub ParsesExpr : Tokens → ℕ → Result (Expr × ℕ) ParseFault → Type 0
 ParsesExpr tokens at (Ok x) = Found Expression (λ _. ends_full) (drop at tokens) x.0 (drop x.1 tokens) × (depth x.0 ≤ 200) × (x.1 < length tokens)
 ParsesExpr tokens at (Err e) = FailsWithin Expression depth ends_full 200 (drop at tokens) e
+
+-- A guard stands at the place, with nothing else to be read there, and it is at most 200 deep. The second place is the
+-- one behind it. Else the first token with which no such guard goes on.
+abbrev pub ParsesGuard : Tokens → ℕ → Result (GuardExpr × ℕ) ParseFault → Type 0
+ParsesGuard tokens at (Ok x) = Found Guard (λ _. ends_guard) (drop at tokens) x.0 (drop x.1 tokens) × (guard_depth x.0 ≤ 200) × (x.1 < length tokens)
+ParsesGuard tokens at (Err e) = FailsWithin Guard guard_depth ends_guard 200 (drop at tokens) e

@@ -1,11 +1,16 @@
-//! Reads expressions from tokens.
+//! Reads expressions and guards from tokens.
 #![tactic(auto)]
 
 mod ahead;
+mod atom;
 mod expression;
+mod guard;
+mod path;
+mod sum;
 mod token;
 
 pub use expression::parse_expr;
+pub use guard::parse_guard;
 
 #[cfg(test)]
 mod tests;
