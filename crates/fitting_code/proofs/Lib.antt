@@ -1,0 +1,3 @@
+pub mod OfExpressions
+pub mod OfStatements
+pub mod OfMembers
