@@ -1,4 +1,4 @@
-ghost use Rattle.std.specs.Prelude.{◌≡◌, ◌<◌, true, false, [], length, MatchResult};
+ghost use Rattle.std.specs.Prelude.{◌≡◌, ◌<◌, true, false, [], length, IfOk, OnOk, OnErr};
 ghost use Rattle.code_asm.specs.Pieces.{OpPiece, JumpPiece, MarkPiece, with_piece, with_label, is_marked, all_land, distance, finished};
 ghost use Rattle.code_asm.specs.Kept.{pieces_in, AreKept, IsLaid, short_of};
 
@@ -73,9 +73,12 @@ impl Asm {
 
     /// One more label, which isn't marked yet.
     pub fn label(&mut self) -> Result<Label, AllocError>
-        ensures { MatchResult result (λ label. (label ≡ self.old.labels) × (self.new ≡ with_label self.old)) (λ _. self.new ≡ self.old) }
+        ensures number { IfOk result (λ label. label ≡ self.old.labels) }
+        ensures ok { OnOk result (self.new ≡ with_label self.old) }
+        ensures err { OnErr result (self.new ≡ self.old) }
     {
         let number = self.places.len();
+        // Room for the marks of all labels.
         self.parts.reserve(number + 1)?;
         self.places.push(None)?;
         Ok(Label { number })
@@ -93,9 +96,11 @@ impl Asm {
 
     /// An instruction, by its opcode and the bytes of its operands.
     pub fn op(&mut self, opcode: u8, operands: &[u8]) -> Result<(), AllocError>
-        ensures { MatchResult result (λ _. self.new ≡ with_piece self.old (OpPiece opcode operands.now)) (λ _. self.new ≡ self.old) }
+        ensures ok { OnOk result (self.new ≡ with_piece self.old (OpPiece opcode operands.now)) }
+        ensures err { OnErr result (self.new ≡ self.old) }
     {
         self.bytes.reserve(operands.len() + 1)?;
+        // Room for this part, and for the marks of all labels.
         self.parts.reserve(self.places.len() + 1)?;
         self.bytes.push_reserved(opcode);
         self.bytes.extend_from_slice(operands)?;
@@ -106,7 +111,8 @@ impl Asm {
     /// A jump to a label, by its opcode.
     pub fn jump(&mut self, opcode: u8, label: Label) -> Result<(), AllocError>
         requires { label < self.old.labels }
-        ensures { MatchResult result (λ _. self.new ≡ with_piece self.old (JumpPiece opcode label)) (λ _. self.new ≡ self.old) }
+        ensures ok { OnOk result (self.new ≡ with_piece self.old (JumpPiece opcode label)) }
+        ensures err { OnErr result (self.new ≡ self.old) }
     {
         self.parts.reserve(self.places.len() + 1)?;
         self.bytes.extend_from_slice(&[opcode, 0, 0])?;

@@ -10,8 +10,8 @@ invariant_of-self-2 c =
     let parts = c.push_reserved.ensures.items ∙ ap (λ l. l ++ Jump c.args.label ∷ []) c.reserve.ensures.items in
     (rw (c.in_ok-extend_from_slice.ensures.items, parts) (written r.bytes.items r.parts.items r.places.items c.self.invariant.0 _ _ (JumpPiece c.args.opcode c.args.label) refl refl (λ l. refl)), omega (arith, unmarked_few r.places.items, c.in_ok-reserve.ensures.ok))
 
-pub returns : goal.returns
-returns c =
+pub returns-clause-ok : goal.returns-clause-ok
+returns-clause-ok c =
     let r = c.self.inside in
     let parts = c.push_reserved.ensures.items ∙ ap (λ l. l ++ Jump c.args.label ∷ []) c.reserve.ensures.items in
     rw (← c.self.view_is, c.in_ok-extend_from_slice.ensures.items, parts, pieces_in-append r.parts.items (Jump c.args.label ∷ []) r.bytes.items (c.args.opcode ∷ 0 ∷ 0 ∷ []) c.self.invariant.0.sized) refl

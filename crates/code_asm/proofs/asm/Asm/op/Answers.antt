@@ -14,8 +14,8 @@ invariant_of-self-2 c =
       omega (arith, unmarked_few r.places.items, c.in_ok-reserve-2.ensures.ok),
     )
 
-pub returns : goal.returns
-returns c =
+pub returns-clause-ok : goal.returns-clause-ok
+returns-clause-ok c =
     let r = c.self.inside in
     let operands = c.args.operands.now in
     let bytes = c.in_ok-extend_from_slice.ensures.items ∙ ap (λ l. l ++ operands) (c.push_reserved.ensures.items ∙ ap (λ l. l ++ c.args.opcode ∷ []) c.reserve.ensures.items) ∙ append_assoc r.bytes.items (c.args.opcode ∷ []) operands in
