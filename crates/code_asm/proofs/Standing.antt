@@ -1,6 +1,6 @@
 -- Items whose pieces are laid out stand in the code.
-use Rattle.std.proofs.Common.{◌≡◌, ℕ, zero, suc, ◌+◌, ◌<◌, ◌≤◌, ℤ, Bool, true, false, ◌||◌, cond, if◌then◌else◌, List, [], ◌∷◌, ◌++◌, length, Option, Some, None, Result, Ok, Err, refl, sym, ap, ◌∙◌, subst, arith, length-append, true≢false, eqb, ltb, inl, inr, add-zero, zero-add, eq-eqb}
-use Rattle.std.proofs.lemmas.Bool.{false≢true, ltb-false}
+use Rattle.std.proofs.Common.{◌≡◌, ℕ, zero, suc, ◌+◌, ◌<◌, ◌≤◌, ℤ, Bool, true, false, ◌||◌, ◌&&◌, cond, if◌then◌else◌, List, [], ◌∷◌, ◌++◌, length, Option, Some, None, Result, Ok, Err, refl, sym, ap, ◌∙◌, subst, arith, length-append, true≢false, eqb, ltb, inl, inr, add-zero, zero-add, eq-eqb}
+use Rattle.std.proofs.lemmas.Bool.{false≢true, ltb-true, ltb-false}
 use Rattle.std.proofs.lemmas.Bool.Decides.{eqb_tells}
 use Rattle.std.proofs.lemmas.List.{append-nil}
 use Rattle.std.proofs.lemmas.Option.{slice_get_within}
@@ -22,45 +22,40 @@ use Rattle.code_asm.specs.declared.fault.AsmFault.{AsmFault}
 use Rattle.code_asm.specs.declared.fault.AsmFault.TheVariants.{TooLong, FarJump}
 use Rattle.code_asm.specs.Held.{Held, hold, hold_class, hold_text, hold_member}
 use Rattle.code_asm.specs.Items.{Wanted, IntOf, TextOf, FieldOf, ClassOf, MethodOf, FamilyOf, BuiltIn, Item, Plain, Uses, CallsInterface, Branch, Mark, Names, Stands}
+use Rattle.code_asm.specs.Lines.{name_of, named_of, line_of, lines_of, is_marked_in, MarkOnce}
 use Rattle.code_asm.specs.Pieces.{Piece, OpPiece, JumpPiece, MarkPiece, size_of, size_of_all, marks, is_marked, place_in, distance, is_short, far_jump, laid, bytes_of_all, unless_far, finished}
 use Rattle.code_asm.specs.Encoding.{bytes_of, jump_opcode, use_bytes, interface_bytes}
-use Rattle.code_asm.specs.Written.{hold_key, hold_wanted, with_item, op_piece, interface_piece, piece_of, AreOf, IsMeant, AreMeant, AreMarkedOnce}
+use Rattle.code_asm.specs.Written.{hold_name, hold_named, op_piece, AreOf, IsMeant, AreMeant}
 use Rattle.code_asm.specs.Laws.{ItemsStand}
 use Rattle.code_asm.proofs.Keeping.{place_in-le}
 use Rattle.code_asm.proofs.Naming.{HasAt, held_has, ClassAt, TextAt, MemberAt, class_has, text_has, member_has, constant_in, utf8_in, class_name_in, member_in}
 use Rattle.code_asm.proofs.Rows.{BytesAt, front_at, back_at, all_at, ReadsBack, plain_read, use_read, interface_read, jump_read, length-u2}
 
--- a constant that is there has a small index
-index_small : (list : List Const) (i : ℕ) (c : Const) → HasAt list i c → i < 1 + length list
-index_small list i c h =
-    let lt : i < length (Unused ∷ (list ++ [])) = slice_get_within (Unused ∷ (list ++ [])) i c (h []) in
-    omega (arith, ap length (append-nil list))
-
 -- the index of what is wanted, where it is there, names it
 module _ (list more : List Const) (file : ClassFile) (has : file.constants ≡ Unused ∷ (list ++ more)) where
-  key_named : (kind : ℕ → ℕ → Const) (parts : Const → Option (ℕ × ℕ)) → ((a b : ℕ) → parts (kind a b) ≡ Some (a, b)) → (key : Key) → (hold_key kind list key).constants ≡ list
-      → ((hold_key kind list key).index < 1 + length list) × (member_named parts file (hold_key kind list key).index ≡ Some key)
+  key_named : (kind : ℕ → ℕ → Const) (parts : Const → Option (ℕ × ℕ)) → ((a b : ℕ) → parts (kind a b) ≡ Some (a, b)) → (key : Key) → (hold_name kind list (name_of key)).constants ≡ list
+      → member_named parts file (hold_name kind list (name_of key)).index ≡ Some key
   key_named kind parts is key e =
-      let i : ℕ = (hold_key kind list key).index in
+      let i : ℕ = (hold_name kind list (name_of key)).index in
       let k = subst (λ l. MemberAt kind l i key.class key.name key.descriptor) e (member_has kind list key.class key.name key.descriptor) in
-      (index_small list i (kind k.owner k.type) k.member, member_in list file more has kind parts is i key k)
+      member_in list file more has kind parts is i key k
 
-  wanted_named : (w : Wanted) → (hold_wanted list w).constants ≡ list → IsMeant w → ((hold_wanted list w).index < 1 + length list) × Names file (hold_wanted list w).index w
+  wanted_named : (w : Wanted) → (hold_named list (named_of w)).constants ≡ list → IsMeant w → Names file (hold_named list (named_of w)).index w
   wanted_named (IntOf n) e m =
       let i : ℕ = (hold list (Integer n)).index in
       let k = subst (λ l. HasAt l i (Integer n)) e (held_has list (Integer n)) in
-      (index_small list i (Integer n) k, constant_in list file more has i (Integer n) k)
+      constant_in list file more has i (Integer n) k
   wanted_named (TextOf bytes) e m =
       let i : ℕ = (hold_text list bytes).index in
       let k = subst (λ l. TextAt l i bytes) e (text_has list bytes) in
-      (index_small list i (Text k.text) k.literal, (k.text, constant_in list file more has i (Text k.text) k.literal, utf8_in list file more has k.text bytes k.spelled))
+      (k.text, constant_in list file more has i (Text k.text) k.literal, utf8_in list file more has k.text bytes k.spelled)
   wanted_named (FieldOf key) e m = key_named Fieldref field_in (λ a b. refl) key e
   wanted_named (ClassOf name) e m =
       let i : ℕ = (hold_class list name).index in
       let k = subst (λ l. ClassAt l i name) e (class_has list name) in
-      (index_small list i (Class k.text) k.class, class_name_in list file more has i name k)
-  wanted_named (MethodOf key signature) e m = let k = key_named Methodref method_in (λ a b. refl) key e in (k.0, (k.1, m.0, m.1))
-  wanted_named (FamilyOf key signature) e m = let k = key_named Methodref method_in (λ a b. refl) key e in (k.0, (k.1, m.0, m.1, m.2))
+      class_name_in list file more has i name k
+  wanted_named (MethodOf key signature) e m = (key_named Methodref method_in (λ a b. refl) key e, m.0, m.1)
+  wanted_named (FamilyOf key signature) e m = (key_named Methodref method_in (λ a b. refl) key e, m.0, m.1, m.2)
   wanted_named (BuiltIn key) e m = key_named Methodref method_in (λ a b. refl) key e
 
 -- a piece that is an opcode with operands
@@ -75,9 +70,20 @@ opened None piece e = absurd cc
 opened (Some []) piece e = absurd cc
 opened (Some (opcode ∷ operands)) piece e = record { opcode = opcode; operands = operands; spelled = refl; is = cc }
 
-opened_if : (b : Bool) (bytes : List ℕ) (piece : Piece) → (if b then op_piece bytes else None) ≡ Some piece → IsOp (Some bytes) piece
-opened_if true bytes piece e = opened (Some bytes) piece e
+opened_if : (b : Bool) (bytes : List ℕ) (piece : Piece) → (if b then op_piece bytes else None) ≡ Some piece → (b ≡ true) × IsOp (Some bytes) piece
+opened_if true bytes piece e = (refl, opened (Some bytes) piece e)
 opened_if false bytes piece e = absurd cc
+
+both_left : (a b : Bool) → (a && b) ≡ true → a ≡ true
+both_left true b h = refl
+both_left false b h = h
+
+-- each label is marked once among pieces too
+abbrev AreMarkedOnce : List Piece → Type 0
+AreMarkedOnce [] = Unit {0}
+AreMarkedOnce (OpPiece opcode operands ∷ pieces) = AreMarkedOnce pieces
+AreMarkedOnce (JumpPiece opcode label ∷ pieces) = AreMarkedOnce pieces
+AreMarkedOnce (MarkPiece label ∷ pieces) = (is_marked pieces label ≡ false) × AreMarkedOnce pieces
 
 module _ (code : List ℕ) (place : ℕ → ℕ) (near : (l : ℕ) → place l < 65536) where
   -- pieces are laid out from a place on
@@ -149,11 +155,11 @@ module _ (code : List ℕ) (place : ℕ → ℕ) (near : (l : ℕ) → place l <
       )
 
   -- the items stand where their pieces are laid out, in a file with their constants
-  module _ (list more : List Const) (file : ClassFile) (has : file.constants ≡ Unused ∷ (list ++ more)) (few : 1 + length list < 65536) where
+  module _ (list more : List Const) (file : ClassFile) (has : file.constants ≡ Unused ∷ (list ++ more)) where
     behind : (at : ℕ) (piece : Piece) (pieces : List Piece) → at + size_of piece + size_of_all pieces ≡ at + size_of_all (piece ∷ pieces)
     behind at piece pieces = omega arith
 
-    stand : (items : List Item) (pieces : List Piece) (at : ℕ) → Fits at pieces → AreOf list items pieces → AreMeant items → Stands file code place at items (at + size_of_all pieces)
+    stand : (items : List Item) (pieces : List Piece) (at : ℕ) → Fits at pieces → AreOf list (lines_of items) pieces → AreMeant items → Stands file code place at items (at + size_of_all pieces)
     stand [] [] at f of meant = sym (add-zero at)
     stand [] (piece ∷ pieces) at f of meant = absurd of
     stand (Plain instr ∷ items) [] at f of meant = absurd of
@@ -165,16 +171,18 @@ module _ (code : List ℕ) (place : ℕ → ℕ) (near : (l : ℕ) → place l <
         let r = op_row instr at (bytes_of instr) piece pieces (opened (bytes_of instr) piece of.1) (plain_read instr) f in
         (at + size_of piece, r.0, subst (Stands file code place (at + size_of piece) items) (behind at piece pieces) (stand items pieces (at + size_of piece) r.1 of.2 meant))
     stand (Uses use_ wanted ∷ items) (piece ∷ pieces) at f of meant =
-        let i : ℕ = (hold_wanted list wanted).index in
+        let i : ℕ = (hold_named list (named_of wanted)).index in
         let n = wanted_named list more file has wanted of.0 meant.0 in
-        let r = op_row (OnConstant use_ i) at (Some (use_bytes use_ i)) piece pieces (opened (Some (use_bytes use_ i)) piece of.1) (use_read use_ i (omega (arith, n.0))) f in
-        (i, at + size_of piece, r.0, n.1, subst (Stands file code place (at + size_of piece) items) (behind at piece pieces) (stand items pieces (at + size_of piece) r.1 of.2 meant.1))
+        let o = opened_if (nat_lt i 65536) (use_bytes use_ i) piece of.1 in
+        let r = op_row (OnConstant use_ i) at (Some (use_bytes use_ i)) piece pieces o.1 (use_read use_ i (ltb-true i 65536 o.0)) f in
+        (i, at + size_of piece, r.0, n, subst (Stands file code place (at + size_of piece) items) (behind at piece pieces) (stand items pieces (at + size_of piece) r.1 of.2 meant.1))
     stand (CallsInterface key signature ∷ items) (piece ∷ pieces) at f of meant =
-        let i : ℕ = (hold_key InterfaceMethodref list key).index in
+        let i : ℕ = (hold_name InterfaceMethodref list (name_of key)).index in
         let count : ℕ = 1 + places_of signature.parameters in
         let n = key_named list more file has InterfaceMethodref interface_method_in (λ a b. refl) key of.0 in
-        let r = op_row (InvokeInterface i count) at (Some (interface_bytes i count)) piece pieces (opened_if (nat_lt count 256) (interface_bytes i count) piece of.1) (interface_read i count (omega (arith, n.0))) f in
-        (i, at + size_of piece, r.0, n.1, meant.0, subst (Stands file code place (at + size_of piece) items) (behind at piece pieces) (stand items pieces (at + size_of piece) r.1 of.2 meant.1))
+        let o = opened_if (nat_lt i 65536 && nat_lt count 256) (interface_bytes i count) piece of.1 in
+        let r = op_row (InvokeInterface i count) at (Some (interface_bytes i count)) piece pieces o.1 (interface_read i count (ltb-true i 65536 (both_left (nat_lt i 65536) (nat_lt count 256) o.0))) f in
+        (i, at + size_of piece, r.0, n, meant.0, subst (Stands file code place (at + size_of piece) items) (behind at piece pieces) (stand items pieces (at + size_of piece) r.1 of.2 meant.1))
     stand (Branch jump label ∷ items) (piece ∷ pieces) at f of meant =
         let is : piece ≡ JumpPiece (jump_opcode jump) label = cc in
         let g : Fits at (JumpPiece (jump_opcode jump) label ∷ pieces) = subst (λ p. Fits at (p ∷ pieces)) is f in
@@ -190,6 +198,53 @@ module _ (code : List ℕ) (place : ℕ → ℕ) (near : (l : ℕ) → place l <
         let g : Fits at (MarkPiece label ∷ pieces) = subst (λ p. Fits at (p ∷ pieces)) is f in
         let e : at + size_of_all pieces ≡ at + size_of_all (piece ∷ pieces) = omega (arith, ap size_of is) in
         (mark_here at label pieces g, subst (Stands file code place at items) e (stand items pieces at (fits_mark at label pieces g) of.2 meant))
+
+-- pieces mark what their items mark
+pieces_marked : (list : List Const) (items : List Item) (pieces : List Piece) (l : ℕ) → AreOf list (lines_of items) pieces → is_marked pieces l ≡ is_marked_in (lines_of items) l
+pieces_marked list [] [] l of = refl
+pieces_marked list [] (p ∷ ps) l of = absurd of
+pieces_marked list (Plain instr ∷ items) [] l of = absurd of
+pieces_marked list (Uses use_ w ∷ items) [] l of = absurd of
+pieces_marked list (CallsInterface key s ∷ items) [] l of = absurd of
+pieces_marked list (Branch jump to ∷ items) [] l of = absurd of
+pieces_marked list (Mark to ∷ items) [] l of = absurd of
+pieces_marked list (Plain instr ∷ items) (p ∷ ps) l of = ap (λ q. marks l q || is_marked ps l) (opened (bytes_of instr) p of.1).is ∙ pieces_marked list items ps l of.2
+pieces_marked list (Uses use_ w ∷ items) (p ∷ ps) l of =
+    let i : ℕ = (hold_named list (named_of w)).index in
+    ap (λ q. marks l q || is_marked ps l) (opened_if (nat_lt i 65536) (use_bytes use_ i) p of.1).1.is ∙ pieces_marked list items ps l of.2
+pieces_marked list (CallsInterface key s ∷ items) (p ∷ ps) l of =
+    let i : ℕ = (hold_name InterfaceMethodref list (name_of key)).index in
+    let n : ℕ = 1 + places_of s.parameters in
+    ap (λ q. marks l q || is_marked ps l) (opened_if (nat_lt i 65536 && nat_lt n 256) (interface_bytes i n) p of.1).1.is ∙ pieces_marked list items ps l of.2
+pieces_marked list (Branch jump to ∷ items) (p ∷ ps) l of =
+    let is : p ≡ JumpPiece (jump_opcode jump) to = cc in
+    ap (λ q. marks l q || is_marked ps l) is ∙ pieces_marked list items ps l of.2
+pieces_marked list (Mark to ∷ items) (p ∷ ps) l of =
+    let is : p ≡ MarkPiece to = cc in
+    ap (λ q. marks l q || is_marked ps l) is ∙ ap (λ b. eqb l to || b) (pieces_marked list items ps l of.2)
+
+pieces_once : (list : List Const) (items : List Item) (pieces : List Piece) → AreOf list (lines_of items) pieces → MarkOnce (lines_of items) → AreMarkedOnce pieces
+pieces_once list [] [] of once = tt
+pieces_once list [] (p ∷ ps) of once = absurd of
+pieces_once list (Plain instr ∷ items) [] of once = absurd of
+pieces_once list (Uses use_ w ∷ items) [] of once = absurd of
+pieces_once list (CallsInterface key s ∷ items) [] of once = absurd of
+pieces_once list (Branch jump to ∷ items) [] of once = absurd of
+pieces_once list (Mark to ∷ items) [] of once = absurd of
+pieces_once list (Plain instr ∷ items) (p ∷ ps) of once = subst (λ q. AreMarkedOnce (q ∷ ps)) (sym (opened (bytes_of instr) p of.1).is) (pieces_once list items ps of.2 once)
+pieces_once list (Uses use_ w ∷ items) (p ∷ ps) of once =
+    let i : ℕ = (hold_named list (named_of w)).index in
+    subst (λ q. AreMarkedOnce (q ∷ ps)) (sym (opened_if (nat_lt i 65536) (use_bytes use_ i) p of.1).1.is) (pieces_once list items ps of.2 once)
+pieces_once list (CallsInterface key s ∷ items) (p ∷ ps) of once =
+    let i : ℕ = (hold_name InterfaceMethodref list (name_of key)).index in
+    let n : ℕ = 1 + places_of s.parameters in
+    subst (λ q. AreMarkedOnce (q ∷ ps)) (sym (opened_if (nat_lt i 65536 && nat_lt n 256) (interface_bytes i n) p of.1).1.is) (pieces_once list items ps of.2 once)
+pieces_once list (Branch jump to ∷ items) (p ∷ ps) of once =
+    let is : JumpPiece (jump_opcode jump) to ≡ p = cc in
+    subst (λ q. AreMarkedOnce (q ∷ ps)) is (pieces_once list items ps of.2 once)
+pieces_once list (Mark to ∷ items) (p ∷ ps) of once =
+    let is : MarkPiece to ≡ p = cc in
+    subst (λ q. AreMarkedOnce (q ∷ ps)) is (pieces_marked list items ps to of.2 ∙ once.0, pieces_once list items ps of.2 once.1)
 
 -- code that is finished
 record IsFinished (pieces : List Piece) (code : Code) : Type 0 where
@@ -221,11 +276,11 @@ length-laid place at (JumpPiece opcode label ∷ pieces) =
 length-laid place at (MarkPiece label ∷ pieces) = omega (arith, length-laid place at pieces)
 
 pub items_stand_lem : ItemsStand
-items_stand_lem file list more items pieces stack locals code has few of meant once done =
+items_stand_lem file list more items pieces stack locals code has of meant once done =
     let d = is_finished pieces stack locals code done in
     let near : (l : ℕ) → place_in pieces l < 65536 = λ l. omega (arith, place_in-le pieces l, d.few) in
     let whole : List ℕ = bytes_of_all pieces in
-    let f : Fits whole (place_in pieces) near 0 pieces = record { bytes = all_at whole; once = once; far = d.near; agrees = λ l m. sym (zero-add (place_in pieces l)); short = omega (arith, d.few) } in
+    let f : Fits whole (place_in pieces) near 0 pieces = record { bytes = all_at whole; once = pieces_once list items pieces of once; far = d.near; agrees = λ l m. sym (zero-add (place_in pieces l)); short = omega (arith, d.few) } in
     let e : 0 + size_of_all pieces ≡ length whole = omega (arith, length-laid (place_in pieces) 0 pieces) in
     subst (λ bytes. Stands file bytes (place_in pieces) 0 items (length bytes)) (sym d.bytes)
-    (subst (Stands file whole (place_in pieces) 0 items) e (stand whole (place_in pieces) near list more file has few items pieces 0 f of meant))
+    (subst (Stands file whole (place_in pieces) 0 items) e (stand whole (place_in pieces) near list more file has items pieces 0 f of meant))

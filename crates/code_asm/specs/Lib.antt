@@ -1,8 +1,10 @@
+pub mod Encoded
 pub mod Encoding
 pub mod Entries
 pub mod Held
 pub mod Items
 pub mod Kept
 pub mod Laws
+pub mod Lines
 pub mod Pieces
 pub mod Written

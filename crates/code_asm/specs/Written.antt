@@ -1,64 +1,69 @@
--- The pieces that items are, by the indices of constants.
-use Rattle.std.specs.Prelude.{◌≡◌, ℕ, ◌+◌, ◌<◌, Bool, true, false, nat_lt, if◌then◌else◌, List, [], ◌∷◌, ◌++◌, length, map, Option, Some, None, option_and_then, codes}
-use Rattle.std.specs.Option.{option_map}
+-- The pieces that lines of code are, by the indices of constants.
+use Rattle.std.specs.Prelude.{◌≡◌, ℕ, false, ◌&&◌, nat_lt, if◌then◌else◌, List, [], ◌∷◌, Option, Some, None, option_and_then, codes}
 use Rattle.std.specs.Str.{bytes_eq}
 use Rattle.class_form.specs.declared.constant.Const.{Const}
-use Rattle.class_form.specs.declared.constant.Const.TheVariants.{Unused, Integer, Fieldref, Methodref, InterfaceMethodref}
-use Rattle.jp_store.specs.Classes.{Key}
-use Rattle.jvm_table.specs.Descriptors.{Signature, signature_of, places_of}
+use Rattle.class_form.specs.declared.constant.Const.TheVariants.{Integer, Fieldref, Methodref, InterfaceMethodref}
+use Rattle.jvm_table.specs.declared.instr.ConstantUse.{ConstantUse}
+use Rattle.jvm_table.specs.Descriptors.{signature_of}
+use Rattle.code_asm.specs.declared.line.MemberName.{MemberName}
+use Rattle.code_asm.specs.declared.line.Named.{Named}
+use Rattle.code_asm.specs.declared.line.Named.TheVariants as named
+use Rattle.code_asm.specs.declared.line.Line.{Line}
+use Rattle.code_asm.specs.declared.line.Line.TheVariants as line
 use Rattle.code_asm.specs.Held.{Held, hold, hold_class, hold_text, hold_member}
 use Rattle.code_asm.specs.Items.{Wanted, IntOf, TextOf, FieldOf, ClassOf, MethodOf, FamilyOf, BuiltIn, Item, Plain, Uses, CallsInterface, Branch, Mark, is_built_in}
-use Rattle.code_asm.specs.Pieces.{Piece, OpPiece, JumpPiece, MarkPiece, is_marked}
+use Rattle.code_asm.specs.Pieces.{Piece, OpPiece, JumpPiece, MarkPiece}
 use Rattle.code_asm.specs.Encoding.{bytes_of, jump_opcode, use_bytes, interface_bytes}
 
--- constants with one that is wanted, and its index
-abbrev pub hold_key : (ℕ → ℕ → Const) → List Const → Key → Held
-hold_key kind list key = hold_member kind list key.class key.name key.descriptor
+-- constants with what is named, and its index
+abbrev pub hold_name : (ℕ → ℕ → Const) → List Const → MemberName → Held
+hold_name kind list m = hold_member kind list m.class m.name m.descriptor
 
-abbrev pub hold_wanted : List Const → Wanted → Held
-hold_wanted list (IntOf n) = hold list (Integer n)
-hold_wanted list (TextOf bytes) = hold_text list bytes
-hold_wanted list (FieldOf key) = hold_key Fieldref list key
-hold_wanted list (ClassOf name) = hold_class list name
-hold_wanted list (MethodOf key signature) = hold_key Methodref list key
-hold_wanted list (FamilyOf key signature) = hold_key Methodref list key
-hold_wanted list (BuiltIn key) = hold_key Methodref list key
+abbrev pub hold_named : List Const → Named → Held
+hold_named list (named.Int n) = hold list (Integer n)
+hold_named list (named.Text bytes) = hold_text list bytes
+hold_named list (named.Class name) = hold_class list name
+hold_named list (named.Field m) = hold_name Fieldref list m
+hold_named list (named.Method m) = hold_name Methodref list m
 
--- constants with those of an item, and of items
-abbrev pub with_item : List Const → Item → List Const
-with_item list (Plain instr) = list
-with_item list (Uses use_ wanted) = (hold_wanted list wanted).constants
-with_item list (CallsInterface key signature) = (hold_key InterfaceMethodref list key).constants
-with_item list (Branch jump label) = list
-with_item list (Mark label) = list
+-- constants with what a line names, and what lines name
+abbrev pub with_line : List Const → Line → List Const
+with_line list (line.Plain instr) = list
+with_line list (line.Uses use_ wanted) = (hold_named list wanted).constants
+with_line list (line.CallsInterface m count) = (hold_name InterfaceMethodref list m).constants
+with_line list (line.Branch jump label) = list
+with_line list (line.Mark label) = list
 
-abbrev pub with_items : List Const → List Item → List Const
-with_items list [] = list
-with_items list (item ∷ items) = with_items (with_item list item) items
+abbrev pub with_lines : List Const → List Line → List Const
+with_lines list [] = list
+with_lines list (l ∷ lines) = with_lines (with_line list l) lines
 
 -- an opcode with what is behind it
 abbrev pub op_piece : List ℕ → Option Piece
 op_piece [] = None
 op_piece (opcode ∷ operands) = Some (OpPiece opcode operands)
 
--- a call of an interface's method has its number of places in one byte
+-- an index has two bytes at most, and the number of an interface call's places one
+abbrev pub use_piece : ConstantUse → ℕ → Option Piece
+use_piece use_ index = if nat_lt index 65536 then op_piece (use_bytes use_ index) else None
+
 abbrev pub interface_piece : ℕ → ℕ → Option Piece
-interface_piece index count = if nat_lt count 256 then op_piece (interface_bytes index count) else None
+interface_piece index count = if nat_lt index 65536 && nat_lt count 256 then op_piece (interface_bytes index count) else None
 
--- the piece that an item is among constants, if there is an opcode for it
-abbrev pub piece_of : List Const → Item → Option Piece
-piece_of list (Plain instr) = option_and_then op_piece (bytes_of instr)
-piece_of list (Uses use_ wanted) = op_piece (use_bytes use_ (hold_wanted list wanted).index)
-piece_of list (CallsInterface key signature) = interface_piece (hold_key InterfaceMethodref list key).index (1 + places_of signature.parameters)
-piece_of list (Branch jump label) = Some (JumpPiece (jump_opcode jump) label)
-piece_of list (Mark label) = Some (MarkPiece label)
+-- the piece that a line is among constants, if there is an opcode for it
+abbrev pub piece_of : List Const → Line → Option Piece
+piece_of list (line.Plain instr) = option_and_then op_piece (bytes_of instr)
+piece_of list (line.Uses use_ wanted) = use_piece use_ (hold_named list wanted).index
+piece_of list (line.CallsInterface m count) = interface_piece (hold_name InterfaceMethodref list m).index count
+piece_of list (line.Branch jump label) = Some (JumpPiece (jump_opcode jump) label)
+piece_of list (line.Mark label) = Some (MarkPiece label)
 
--- the pieces are those of the items, whose constants are all there
-abbrev pub AreOf : List Const → List Item → List Piece → Type 0
+-- the pieces are those of the lines, which name nothing that isn't there
+abbrev pub AreOf : List Const → List Line → List Piece → Type 0
 AreOf list [] [] = Unit {0}
 AreOf list [] (piece ∷ pieces) = ⊥
-AreOf list (item ∷ items) [] = ⊥
-AreOf list (item ∷ items) (piece ∷ pieces) = (with_item list item ≡ list) × (piece_of list item ≡ Some piece) × AreOf list items pieces
+AreOf list (l ∷ lines) [] = ⊥
+AreOf list (l ∷ lines) (piece ∷ pieces) = (with_line list l ≡ list) × (piece_of list l ≡ Some piece) × AreOf list lines pieces
 
 -- a method is named with its descriptor's signature
 abbrev pub IsMeant : Wanted → Type 0
@@ -77,10 +82,3 @@ AreMeant (Uses use_ wanted ∷ items) = IsMeant wanted × AreMeant items
 AreMeant (CallsInterface key signature ∷ items) = (signature_of key.descriptor ≡ Some signature) × AreMeant items
 AreMeant (Branch jump label ∷ items) = AreMeant items
 AreMeant (Mark label ∷ items) = AreMeant items
-
--- each label is marked once at most
-abbrev pub AreMarkedOnce : List Piece → Type 0
-AreMarkedOnce [] = Unit {0}
-AreMarkedOnce (OpPiece opcode operands ∷ pieces) = AreMarkedOnce pieces
-AreMarkedOnce (JumpPiece opcode label ∷ pieces) = AreMarkedOnce pieces
-AreMarkedOnce (MarkPiece label ∷ pieces) = (is_marked pieces label ≡ false) × AreMarkedOnce pieces

@@ -3,12 +3,15 @@
 #![tactic(auto)]
 
 mod asm;
+mod encode;
 mod entry;
 mod fault;
 mod laws;
+mod line;
 mod pool;
 
 pub use asm::{Asm, Label};
 pub use fault::AsmFault;
 pub use laws::items_stand;
+pub use line::{Line, MemberName, Named};
 pub use pool::Pool;
