@@ -1,12 +1,13 @@
 -- What a constant's index names, whatever stands behind the constants.
-use Rattle.std.proofs.Common.{◌≡◌, ℕ, zero, suc, ◌+◌, ◌<◌, ◌≤◌, Bool, true, false, not, ◌||◌, ◌&&◌, cond, if◌then◌else◌, List, [], ◌∷◌, ◌++◌, length, Option, Some, Result, Ok, Err, IfOk, refl, sym, ap, ◌∙◌, subst, arith, append_assoc, length-append, true≢false, eqb}
+use Rattle.std.proofs.Common.{◌≡◌, ℕ, zero, suc, ◌+◌, ◌<◌, ◌≤◌, ℤ, Bool, true, false, not, ◌||◌, ◌&&◌, cond, if◌then◌else◌, List, [], ◌∷◌, ◌++◌, length, Option, Some, Result, Ok, Err, IfOk, refl, sym, ap, ◌∙◌, subst, arith, append_assoc, length-append, true≢false, eqb}
 use Rattle.std.proofs.lemmas.List.{append-nil}
-use Rattle.std.proofs.lemmas.Bool.{eqb-true, false≢true}
+use Rattle.std.proofs.lemmas.Bool.{eqb-true, eq-eqb, false≢true}
 use Rattle.std.proofs.lemmas.Bool.Decides.{Decides-int_eq}
 use Rattle.std.proofs.lemmas.Slice.Eq.{bytes_eq-Decides}
 use Rattle.std.proofs.lemmas.List.Folds.{list_any-append}
 use Rattle.std.specs.Prelude.{slice_get}
 use Rattle.std.specs.List.{list_any, position_or_len}
+use Rattle.std.specs.Ordering.{int_eq}
 use Rattle.std.specs.Option.{option_and_then}
 use Rattle.class_form.specs.declared.constant.Const.{Const}
 use Rattle.class_form.specs.declared.constant.Const.TheVariants.{Unused, Utf8, Integer, Long, Class, Text, Fieldref, Methodref, InterfaceMethodref, NameAndType}
@@ -68,6 +69,16 @@ module _ (c : Const) where
       first true g ih = refl
       first false g ih = ap (λ n. 1 + n) (ih g)
 
+  -- one that isn't there yet comes behind the others
+  behind_none : (list rest : List Const) → list_any (is_same c) list ≡ false → is_same c c ≡ true → position_or_len (is_same c) (list ++ c ∷ rest) ≡ position_or_len (is_same c) list
+  behind_none [] rest h t = ap (λ b. cond (not b) (1 + position_or_len (is_same c) rest) 0) t
+  behind_none (x ∷ xs) rest h t = first (is_same c x) h (λ g. behind_none xs rest g t)
+    where
+      first : (b : Bool) → (b || list_any (is_same c) xs) ≡ false → (list_any (is_same c) xs ≡ false → position_or_len (is_same c) (xs ++ c ∷ rest) ≡ position_or_len (is_same c) xs)
+          → cond (not b) (1 + position_or_len (is_same c) (xs ++ c ∷ rest)) 0 ≡ cond (not b) (1 + position_or_len (is_same c) xs) 0
+      first true g ih = refl
+      first false g ih = ap (λ n. 1 + n) (ih g)
+
   -- the constant itself comes first of what is added
   wanted_first : (b : Bool) (rest : List Const) → (more : List Const) × ((if b then c ∷ Unused ∷ [] else c ∷ []) ++ rest ≡ c ∷ more)
   wanted_first true rest = (Unused ∷ rest, refl)
@@ -110,15 +121,44 @@ squeezed a b c f g e =
     front_nil [] ys e = refl
     front_nil (x ∷ xs) ys e = absurd (omega (arith, ap length e))
 
--- A way to hold something: constants go on, and where nothing is added, the same is had whatever stands behind
+-- A way to hold something: constants go on; where nothing is added, the same is had whatever stands behind; and what is
+-- held once is held
 pub record IsHolding (f : List Const → Held) : Type 0 where
   pub extends : (list : List Const) → Extends list (f list).constants
   pub again : (list more : List Const) → (f list).constants ≡ list → f (list ++ more) ≡ record { constants = list ++ more; index = (f list).index }
+  pub twice : (list : List Const) → f (f list).constants ≡ f list
 
-pub one_held : (c : Const) → IsHolding (λ list. hold list c)
+-- what is the same as itself
+abbrev pub IsProper : Const → Type 0
+IsProper c = is_same c c ≡ true
+
+pub utf8_proper : (bytes : List ℕ) → IsProper (Utf8 bytes)
+utf8_proper bytes = (bytes_eq-Decides bytes bytes).1 refl
+
+pub int_proper : (n : ℤ) → int_eq n n ≡ true
+int_proper n = (Decides-int_eq n n).1 refl
+
+pub pair_proper : (a b : ℕ) → (eqb a a && eqb b b) ≡ true
+pair_proper a b = ap (λ x. x && eqb b b) (eq-eqb a a refl) ∙ eq-eqb b b refl
+
+pub one_held : (c : Const) → IsProper c → IsHolding (λ list. hold list c)
 unfolding hold
-one_held c = record { extends = λ list. goes_on list (list_any (is_same c) list); again = λ list more e. there list more (list_any (is_same c) list) refl e }
+one_held c proper = record {
+  extends = λ list. goes_on list (list_any (is_same c) list);
+  again = λ list more e. there list more (list_any (is_same c) list) refl e;
+  twice = λ list. once_more list (list_any (is_same c) list) refl;
+}
   where
+    once_more : (list : List Const) (b : Bool) → list_any (is_same c) list ≡ b
+        → hold (if b then list else list ++ with_rest c) c ≡ record { constants = if b then list else list ++ with_rest c; index = 1 + position_or_len (is_same c) list }
+    once_more list true e = ap (λ b. record { constants = if b then list else list ++ with_rest c; index = 1 + position_or_len (is_same c) list }) e
+    once_more list false e =
+        let w = wanted_first c (is_wide c) [] in
+        let spelled : with_rest c ≡ c ∷ w.0 = sym (append-nil (with_rest c)) ∙ w.1 in
+        let found : list_any (is_same c) (list ++ with_rest c) ≡ true =
+            list_any-append (is_same c) list (with_rest c) ∙ ap (λ b. b || list_any (is_same c) (with_rest c)) e ∙ ap (list_any (is_same c)) spelled ∙ ap (λ b. b || list_any (is_same c) w.0) proper in
+        ap (λ b. record { constants = if b then list ++ with_rest c else (list ++ with_rest c) ++ with_rest c; index = 1 + position_or_len (is_same c) (list ++ with_rest c) }) found
+        ∙ ap (λ n. record { constants = list ++ with_rest c; index = 1 + n }) (ap (λ l. position_or_len (is_same c) (list ++ l)) spelled ∙ behind_none c list w.0 e proper)
     goes_on : (list : List Const) (b : Bool) → Extends list (if b then list else list ++ with_rest c)
     goes_on list true = ([], sym (append-nil list))
     goes_on list false = (with_rest c, refl)
@@ -141,27 +181,35 @@ then_held f g F G = record {
       let first : (f list).constants ≡ list = squeezed list (f list).constants (g i (f list).constants).constants (F.extends list) ((G i).extends (f list).constants) e in
       let second : (g i list).constants ≡ list = subst (λ l. (g i l).constants ≡ list) first e in
       ap (λ h. g h.index h.constants) (F.again list more first) ∙ (G i).again list more second ∙ ap (λ l. record { constants = list ++ more; index = (g i l).index }) (sym first);
+  twice = λ list.
+      let i : ℕ = (f list).index in
+      let fc : List Const = (f list).constants in
+      let e = (G i).extends fc in
+      let there : (f fc).constants ≡ fc = ap (λ h. h.constants) (F.twice list) in
+      let first : f (g i fc).constants ≡ record { constants = (g i fc).constants; index = i } =
+          ap f e.1 ∙ F.again fc e.0 there ∙ ap (λ n. record { constants = fc ++ e.0; index = n }) (ap (λ h. h.index) (F.twice list)) ∙ ap (λ l. record { constants = l; index = i }) (sym e.1) in
+      ap (λ h. g h.index h.constants) first ∙ (G i).twice fc;
 }
 
 pub class_held : (name : List ℕ) → IsHolding (λ list. hold_class list name)
 unfolding hold_class
-class_held name = then_held (λ list. hold list (Utf8 name)) (λ i list. hold list (Class i)) (one_held (Utf8 name)) (λ i. one_held (Class i))
+class_held name = then_held (λ list. hold list (Utf8 name)) (λ i list. hold list (Class i)) (one_held (Utf8 name) (utf8_proper name)) (λ i. one_held (Class i) (eq-eqb i i refl))
 
 pub text_held : (bytes : List ℕ) → IsHolding (λ list. hold_text list bytes)
 unfolding hold_text
-text_held bytes = then_held (λ list. hold list (Utf8 bytes)) (λ i list. hold list (Text i)) (one_held (Utf8 bytes)) (λ i. one_held (Text i))
+text_held bytes = then_held (λ list. hold list (Utf8 bytes)) (λ i list. hold list (Text i)) (one_held (Utf8 bytes) (utf8_proper bytes)) (λ i. one_held (Text i) (eq-eqb i i refl))
 
 pub name_and_type_held : (name descriptor : List ℕ) → IsHolding (λ list. hold_name_and_type list name descriptor)
 unfolding hold_name_and_type
 name_and_type_held name descriptor =
-    then_held (λ list. hold list (Utf8 name)) (λ i list. let d = hold list (Utf8 descriptor) in hold d.constants (NameAndType i d.index)) (one_held (Utf8 name))
-    (λ i. then_held (λ list. hold list (Utf8 descriptor)) (λ j list. hold list (NameAndType i j)) (one_held (Utf8 descriptor)) (λ j. one_held (NameAndType i j)))
+    then_held (λ list. hold list (Utf8 name)) (λ i list. let d = hold list (Utf8 descriptor) in hold d.constants (NameAndType i d.index)) (one_held (Utf8 name) (utf8_proper name))
+    (λ i. then_held (λ list. hold list (Utf8 descriptor)) (λ j list. hold list (NameAndType i j)) (one_held (Utf8 descriptor) (utf8_proper descriptor)) (λ j. one_held (NameAndType i j) (pair_proper i j)))
 
-pub member_held : (kind : ℕ → ℕ → Const) (class name descriptor : List ℕ) → IsHolding (λ list. hold_member kind list class name descriptor)
+pub member_held : (kind : ℕ → ℕ → Const) → ((a b : ℕ) → IsProper (kind a b)) → (class name descriptor : List ℕ) → IsHolding (λ list. hold_member kind list class name descriptor)
 unfolding hold_member
-member_held kind class name descriptor =
+member_held kind proper class name descriptor =
     then_held (λ list. hold_class list class) (λ i list. let m = hold_name_and_type list name descriptor in hold m.constants (kind i m.index)) (class_held class)
-    (λ i. then_held (λ list. hold_name_and_type list name descriptor) (λ j list. hold list (kind i j)) (name_and_type_held name descriptor) (λ j. one_held (kind i j)))
+    (λ i. then_held (λ list. hold_name_and_type list name descriptor) (λ j list. hold list (kind i j)) (name_and_type_held name descriptor) (λ j. one_held (kind i j) (proper i j)))
 
 -- a class, a string literal, a name and type, and a member, with what they name
 pub record ClassAt (list : List Const) (index : ℕ) (name : List ℕ) : Type 0 where
@@ -207,7 +255,7 @@ class_has list name =
     record {
       text = t.index;
       class = held_has t.constants (Class t.index);
-      spelled = has_more t.constants (hold t.constants (Class t.index)).constants t.index (Utf8 name) ((one_held (Class t.index)).extends t.constants) (held_has list (Utf8 name));
+      spelled = has_more t.constants (hold t.constants (Class t.index)).constants t.index (Utf8 name) ((one_held (Class t.index) (eq-eqb t.index t.index refl)).extends t.constants) (held_has list (Utf8 name));
     }
 
 pub text_has : (list : List Const) (bytes : List ℕ) → TextAt (hold_text list bytes).constants (hold_text list bytes).index bytes
@@ -217,7 +265,7 @@ text_has list bytes =
     record {
       text = t.index;
       literal = held_has t.constants (Text t.index);
-      spelled = has_more t.constants (hold t.constants (Text t.index)).constants t.index (Utf8 bytes) ((one_held (Text t.index)).extends t.constants) (held_has list (Utf8 bytes));
+      spelled = has_more t.constants (hold t.constants (Text t.index)).constants t.index (Utf8 bytes) ((one_held (Text t.index) (eq-eqb t.index t.index refl)).extends t.constants) (held_has list (Utf8 bytes));
     }
 
 pub type_has : (list : List Const) (name descriptor : List ℕ) → TypeAt (hold_name_and_type list name descriptor).constants (hold_name_and_type list name descriptor).index name descriptor
@@ -225,8 +273,8 @@ unfolding hold_name_and_type
 type_has list name descriptor =
     let n = hold list (Utf8 name) in
     let d = hold n.constants (Utf8 descriptor) in
-    let e = (one_held (NameAndType n.index d.index)).extends d.constants in
-    let f = extends_more n.constants d.constants (hold d.constants (NameAndType n.index d.index)).constants ((one_held (Utf8 descriptor)).extends n.constants) e in
+    let e = (one_held (NameAndType n.index d.index) (pair_proper n.index d.index)).extends d.constants in
+    let f = extends_more n.constants d.constants (hold d.constants (NameAndType n.index d.index)).constants ((one_held (Utf8 descriptor) (utf8_proper descriptor)).extends n.constants) e in
     record {
       first = n.index;
       second = d.index;
@@ -235,13 +283,13 @@ type_has list name descriptor =
       descriptor_spelled = has_more d.constants (hold d.constants (NameAndType n.index d.index)).constants d.index (Utf8 descriptor) e (held_has n.constants (Utf8 descriptor));
     }
 
-pub member_has : (kind : ℕ → ℕ → Const) (list : List Const) (class name descriptor : List ℕ)
+pub member_has : (kind : ℕ → ℕ → Const) → ((a b : ℕ) → IsProper (kind a b)) → (list : List Const) (class name descriptor : List ℕ)
     → MemberAt kind (hold_member kind list class name descriptor).constants (hold_member kind list class name descriptor).index class name descriptor
 unfolding hold_member
-member_has kind list class name descriptor =
+member_has kind proper list class name descriptor =
     let c = hold_class list class in
     let m = hold_name_and_type c.constants name descriptor in
-    let e = (one_held (kind c.index m.index)).extends m.constants in
+    let e = (one_held (kind c.index m.index) (proper c.index m.index)).extends m.constants in
     let f = extends_more c.constants m.constants (hold m.constants (kind c.index m.index)).constants ((name_and_type_held name descriptor).extends c.constants) e in
     record {
       owner = c.index;

@@ -28,16 +28,16 @@ use Rattle.code_asm.specs.Encoding.{bytes_of, jump_opcode, use_bytes, interface_
 use Rattle.code_asm.specs.Written.{hold_name, hold_named, op_piece, AreOf, IsMeant, AreMeant}
 use Rattle.code_asm.specs.Laws.{ItemsStand}
 use Rattle.code_asm.proofs.Keeping.{place_in-le}
-use Rattle.code_asm.proofs.Naming.{HasAt, held_has, ClassAt, TextAt, MemberAt, class_has, text_has, member_has, constant_in, utf8_in, class_name_in, member_in}
+use Rattle.code_asm.proofs.Naming.{IsProper, pair_proper, HasAt, held_has, ClassAt, TextAt, MemberAt, class_has, text_has, member_has, constant_in, utf8_in, class_name_in, member_in}
 use Rattle.code_asm.proofs.Rows.{BytesAt, front_at, back_at, all_at, ReadsBack, plain_read, use_read, interface_read, jump_read, length-u2}
 
 -- the index of what is wanted, where it is there, names it
 module _ (list more : List Const) (file : ClassFile) (has : file.constants ≡ Unused ∷ (list ++ more)) where
-  key_named : (kind : ℕ → ℕ → Const) (parts : Const → Option (ℕ × ℕ)) → ((a b : ℕ) → parts (kind a b) ≡ Some (a, b)) → (key : Key) → (hold_name kind list (name_of key)).constants ≡ list
+  key_named : (kind : ℕ → ℕ → Const) → ((a b : ℕ) → IsProper (kind a b)) → (parts : Const → Option (ℕ × ℕ)) → ((a b : ℕ) → parts (kind a b) ≡ Some (a, b)) → (key : Key) → (hold_name kind list (name_of key)).constants ≡ list
       → member_named parts file (hold_name kind list (name_of key)).index ≡ Some key
-  key_named kind parts is key e =
+  key_named kind proper parts is key e =
       let i : ℕ = (hold_name kind list (name_of key)).index in
-      let k = subst (λ l. MemberAt kind l i key.class key.name key.descriptor) e (member_has kind list key.class key.name key.descriptor) in
+      let k = subst (λ l. MemberAt kind l i key.class key.name key.descriptor) e (member_has kind proper list key.class key.name key.descriptor) in
       member_in list file more has kind parts is i key k
 
   wanted_named : (w : Wanted) → (hold_named list (named_of w)).constants ≡ list → IsMeant w → Names file (hold_named list (named_of w)).index w
@@ -49,14 +49,14 @@ module _ (list more : List Const) (file : ClassFile) (has : file.constants ≡ U
       let i : ℕ = (hold_text list bytes).index in
       let k = subst (λ l. TextAt l i bytes) e (text_has list bytes) in
       (k.text, constant_in list file more has i (Text k.text) k.literal, utf8_in list file more has k.text bytes k.spelled)
-  wanted_named (FieldOf key) e m = key_named Fieldref field_in (λ a b. refl) key e
+  wanted_named (FieldOf key) e m = key_named Fieldref pair_proper field_in (λ a b. refl) key e
   wanted_named (ClassOf name) e m =
       let i : ℕ = (hold_class list name).index in
       let k = subst (λ l. ClassAt l i name) e (class_has list name) in
       class_name_in list file more has i name k
-  wanted_named (MethodOf key signature) e m = (key_named Methodref method_in (λ a b. refl) key e, m.0, m.1)
-  wanted_named (FamilyOf key signature) e m = (key_named Methodref method_in (λ a b. refl) key e, m.0, m.1, m.2)
-  wanted_named (BuiltIn key) e m = key_named Methodref method_in (λ a b. refl) key e
+  wanted_named (MethodOf key signature) e m = (key_named Methodref pair_proper method_in (λ a b. refl) key e, m.0, m.1)
+  wanted_named (FamilyOf key signature) e m = (key_named Methodref pair_proper method_in (λ a b. refl) key e, m.0, m.1, m.2)
+  wanted_named (BuiltIn key) e m = key_named Methodref pair_proper method_in (λ a b. refl) key e
 
 -- a piece that is an opcode with operands
 record IsOp (bytes : Option (List ℕ)) (piece : Piece) : Type 0 where
@@ -179,7 +179,7 @@ module _ (code : List ℕ) (place : ℕ → ℕ) (near : (l : ℕ) → place l <
     stand (CallsInterface key signature ∷ items) (piece ∷ pieces) at f of meant =
         let i : ℕ = (hold_name InterfaceMethodref list (name_of key)).index in
         let count : ℕ = 1 + places_of signature.parameters in
-        let n = key_named list more file has InterfaceMethodref interface_method_in (λ a b. refl) key of.0 in
+        let n = key_named list more file has InterfaceMethodref pair_proper interface_method_in (λ a b. refl) key of.0 in
         let o = opened_if (nat_lt i 65536 && nat_lt count 256) (interface_bytes i count) piece of.1 in
         let r = op_row (InvokeInterface i count) at (Some (interface_bytes i count)) piece pieces o.1 (interface_read i count (ltb-true i 65536 (both_left (nat_lt i 65536) (nat_lt count 256) o.0))) f in
         (i, at + size_of piece, r.0, n, meant.0, subst (Stands file code place (at + size_of piece) items) (behind at piece pieces) (stand items pieces (at + size_of piece) r.1 of.2 meant.1))

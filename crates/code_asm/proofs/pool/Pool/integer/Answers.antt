@@ -5,7 +5,7 @@ use Rattle.class_form.specs.declared.constant.Const.TheVariants.{Integer}
 use Rattle.code_asm.specs.Held.{hold}
 use Rattle.code_asm.specs.Entries.{consts_of, Puts}
 use Rattle.code_asm.proofs.Chains.{kept_answers, kept_paired}
-use Rattle.code_asm.proofs.Naming.{answers_extend, answers_named, one_held, constant_in, held_has}
+use Rattle.code_asm.proofs.Naming.{answers_extend, answers_named, one_held, constant_in, held_has, int_proper}
 use Rattle.code_asm.proofs.pool.Pool.integer.Goals as goal
 
 pub returns-clause-held : goal.returns-clause-held
@@ -16,7 +16,7 @@ returns-clause-held c =
     c.keep_if_ok.result c.keep_if_ok.ensures.same)
 
 pub returns-clause-kept : goal.returns-clause-kept
-returns-clause-kept c = answers_extend (λ list. hold list (Integer c.args.value)) (one_held (Integer c.args.value)) c.args.self.now _ c.keep_if_ok.result (returns-clause-held c)
+returns-clause-kept c = answers_extend (λ list. hold list (Integer c.args.value)) (one_held (Integer c.args.value) (int_proper c.args.value)) c.args.self.now _ c.keep_if_ok.result (returns-clause-held c)
 
 pub returns-clause-named : goal.returns-clause-named
 returns-clause-named c =

@@ -4,7 +4,7 @@ use Rattle.class_form.specs.declared.constant.Const.TheVariants.{InterfaceMethod
 use Rattle.code_asm.specs.Held.{hold_member}
 use Rattle.code_asm.specs.Entries.{consts_of}
 use Rattle.code_asm.proofs.Chains.{kept_answers, kept_paired}
-use Rattle.code_asm.proofs.Naming.{answers_extend, answers_named, member_held, member_in, member_has}
+use Rattle.code_asm.proofs.Naming.{answers_extend, answers_named, member_held, member_in, member_has, pair_proper}
 use Rattle.code_asm.proofs.pool.Pool.interface_method.Goals as goal
 
 pub returns-clause-held : goal.returns-clause-held
@@ -14,12 +14,12 @@ returns-clause-held c =
     c.keep_if_ok.result c.keep_if_ok.ensures.same)
 
 pub returns-clause-kept : goal.returns-clause-kept
-returns-clause-kept c = answers_extend (λ list. hold_member InterfaceMethodref list c.args.class.now c.args.name.now c.args.descriptor.now) (member_held InterfaceMethodref c.args.class.now c.args.name.now c.args.descriptor.now) c.args.self.now _ c.keep_if_ok.result (returns-clause-held c)
+returns-clause-kept c = answers_extend (λ list. hold_member InterfaceMethodref list c.args.class.now c.args.name.now c.args.descriptor.now) (member_held InterfaceMethodref pair_proper c.args.class.now c.args.name.now c.args.descriptor.now) c.args.self.now _ c.keep_if_ok.result (returns-clause-held c)
 
 pub returns-clause-named : goal.returns-clause-named
 returns-clause-named c =
     answers_named (λ list i file. member_named interface_method_in file i ≡ Some (record { class = c.args.class.now; name = c.args.name.now; descriptor = c.args.descriptor.now })) (hold_member InterfaceMethodref c.args.self.now c.args.class.now c.args.name.now c.args.descriptor.now)
-    (λ file more e. member_in (hold_member InterfaceMethodref c.args.self.now c.args.class.now c.args.name.now c.args.descriptor.now).constants file more e InterfaceMethodref interface_method_in (λ a b. refl) (hold_member InterfaceMethodref c.args.self.now c.args.class.now c.args.name.now c.args.descriptor.now).index (record { class = c.args.class.now; name = c.args.name.now; descriptor = c.args.descriptor.now }) (member_has InterfaceMethodref c.args.self.now c.args.class.now c.args.name.now c.args.descriptor.now))
+    (λ file more e. member_in (hold_member InterfaceMethodref c.args.self.now c.args.class.now c.args.name.now c.args.descriptor.now).constants file more e InterfaceMethodref interface_method_in (λ a b. refl) (hold_member InterfaceMethodref c.args.self.now c.args.class.now c.args.name.now c.args.descriptor.now).index (record { class = c.args.class.now; name = c.args.name.now; descriptor = c.args.descriptor.now }) (member_has InterfaceMethodref pair_proper c.args.self.now c.args.class.now c.args.name.now c.args.descriptor.now))
     c.args.self.now _ c.keep_if_ok.result (returns-clause-held c)
 
 pub invariant_of-self : goal.invariant_of-self

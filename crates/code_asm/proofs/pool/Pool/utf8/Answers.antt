@@ -4,7 +4,7 @@ use Rattle.class_form.specs.declared.constant.Const.TheVariants.{Utf8}
 use Rattle.code_asm.specs.Held.{hold}
 use Rattle.code_asm.specs.Entries.{consts_of}
 use Rattle.code_asm.proofs.Chains.{kept_answers, kept_paired}
-use Rattle.code_asm.proofs.Naming.{answers_extend, answers_named, one_held, utf8_in, held_has}
+use Rattle.code_asm.proofs.Naming.{answers_extend, answers_named, one_held, utf8_in, held_has, utf8_proper}
 use Rattle.code_asm.proofs.pool.Pool.utf8.Goals as goal
 
 pub returns-clause-held : goal.returns-clause-held
@@ -14,7 +14,7 @@ returns-clause-held c =
     c.keep_if_ok.result c.keep_if_ok.ensures.same)
 
 pub returns-clause-kept : goal.returns-clause-kept
-returns-clause-kept c = answers_extend (λ list. hold list (Utf8 c.args.bytes.now)) (one_held (Utf8 c.args.bytes.now)) c.args.self.now _ c.keep_if_ok.result (returns-clause-held c)
+returns-clause-kept c = answers_extend (λ list. hold list (Utf8 c.args.bytes.now)) (one_held (Utf8 c.args.bytes.now) (utf8_proper c.args.bytes.now)) c.args.self.now _ c.keep_if_ok.result (returns-clause-held c)
 
 pub returns-clause-named : goal.returns-clause-named
 returns-clause-named c =
