@@ -23,12 +23,13 @@ use Rattle.jvm_load.specs.FileClasses.{classes_of}
 use Rattle.jvm_load.specs.Methods.{own_method}
 use Rattle.jvm_load.proofs.LineLemmas.{above}
 use Rattle.whole_program.specs.Found.{HaveNone, IsFirstFrom}
+use Rattle.gen_body.specs.Correct.{KeepsReceiver}
 use Rattle.gen_laws.specs.Compiled.{Name, name_of_method, name_of_part, IsMethodOf, IsCompiled}
-use Rattle.gen_laws.specs.Plain.{IsNamed, statics_of}
+use Rattle.gen_laws.specs.Plain.{statics_of}
 use Rattle.gen_laws.proofs.Lists.{one_there, both_empty}
 use Rattle.gen_laws.proofs.Lines.{walk, AllNot, reach}
-use Rattle.gen_laws.proofs.Names.{ClassAt, class_found, classes_are, file_at, named_so, placed_at}
-use Rattle.gen_laws.proofs.Methods.{same_name, Fits, first_of_class, own_of, none_own}
+use Rattle.gen_laws.proofs.Names.{Named, ClassAt, class_found, classes_are, file_at, named_so, placed_at}
+use Rattle.gen_laws.proofs.Methods.{same_name, Fits, one_of_class, own_of, none_own}
 
 -- what code calls a method
 abbrev pub name_for : Method → Name
@@ -53,7 +54,7 @@ none_if : {A : Type 0} (o : Option A) → is_some o ≡ false → o ≡ None
 none_if None e = refl
 none_if (Some a) e = absurd (true≢false e)
 
-module _ (p : Program) (files : List ClassFile) (most : ℕ) (names : IsNamed p) (compiled : IsCompiled p files most) (m : Method) where
+module _ (p : Program) (files : List ClassFile) (most : ℕ) (names : Named p) (compiled : IsCompiled p files most) (m : Method) where
   abbrev classes : List Class
   classes = classes_of files
 
@@ -152,6 +153,7 @@ module _ (p : Program) (files : List ClassFile) (most : ℕ) (names : IsNamed p)
     pub method_there : slice_get file.methods index ≡ Some method
     pub own : own_method files m.name m.descriptor top ≡ Some index
     pub method_is : IsMethodOf (hier_in p.classes) x.head x.member file method most
+    pub kept : KeepsReceiver (hier_in p.classes) x.head x.member
     pub first : IsFirstFrom files m.name m.descriptor at top
     pub fits : Fits is_body m x.head x
 
@@ -160,13 +162,13 @@ module _ (p : Program) (files : List ClassFile) (most : ℕ) (names : IsNamed p)
   have_none (at ∷ more) h = (none_if (own_method files m.name m.descriptor at) h.0, have_none more h.1)
 
   pub found_body : (name : Word) (x : Candidate) → slice_get (chain_of p.classes m name) 0 ≡ Some x → FoundBody name x
-  found_body name x e = by_apart (names.apart m name) where
+  found_body name x e = by_apart (names.names.apart m name) where
     from_climb : Climb (length p.classes) name x → FoundBody name x
     from_climb k =
         let f = file_at p files most names compiled k.top k.d k.top_there in
-        let first = first_of_class is_body m k.d x k.first in
+        let first = one_of_class is_body m k.d 0 x k.first in
         let own = own_of (hier_in p.classes) most files k.top f.file f.there k.d f.is first.index x.member (name_for m) first.there (called_so is_body m k.d.head x refl first.fits) in
-        let init : m.name ≢ codes "<init>" = λ e. names.methods k.top first.fits.at k.d x.method k.top_there first.fits.method_there (first.fits.name ∙ e) in
+        let init : m.name ≢ codes "<init>" = λ e. names.names.methods k.top first.fits.at k.d x.method k.top_there first.fits.method_there (first.fits.name ∙ e) in
         let has : ℕ → Bool = λ y. is_some (own_method files m.name m.descriptor y) in
         let len : length p.classes ≡ length classes = sym (ap (λ (k : List Class). length k) (classes_are p files most names compiled) ∙ length-map p.classes (λ (c : TypedClass). class_of_head c.head)) in
         let r = reach classes has k.steps (length classes) [] k.at k.top (omega (arith, k.few, len)) tt k.walks (ap is_some own.own) (λ i lt y w. ap is_some (k.none init i lt y w)) in
@@ -184,6 +186,7 @@ module _ (p : Program) (files : List ClassFile) (most : ℕ) (names : IsNamed p)
           method_there = own.there;
           own = own.own;
           method_is = subst (λ (h : Iface). IsMethodOf (hier_in p.classes) h x.member f.file own.method most) same own.method_is;
+          kept = subst (λ (h : Iface). KeepsReceiver (hier_in p.classes) h x.member) same (names.kept k.top first.index k.d x.member k.top_there first.there);
           first = (r.before, r.more, r.line, have_none r.before r.none);
           fits = subst (λ (h : Iface). Fits is_body m h x) same first.fits;
         }

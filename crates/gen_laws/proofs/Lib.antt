@@ -1,8 +1,11 @@
 pub mod Lists
 pub mod Lines
+pub mod Keeping
+pub mod Receiving
 pub mod Names
 pub mod Methods
 pub mod Constructors
 pub mod Chains
 pub mod Members
 pub mod Right
+pub mod Nearest

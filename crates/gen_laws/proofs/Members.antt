@@ -19,19 +19,20 @@ use Rattle.jp_meaning.specs.Run.{Program}
 use Rattle.jvm_table.specs.Act.{Call}
 use Rattle.jvm_load.specs.FileClasses as file_of
 use Rattle.code_trace.specs.Given.{has_receiver}
+use Rattle.gen_body.specs.Correct.{KeepsReceiver}
 use Rattle.gen_body.proofs.Members.{code_enters, open_traces}
 use Rattle.whole_program.specs.Right.{Bounds, RunsAs, RunsMember}
 use Rattle.gen_laws.specs.Compiled.{IsMethodOf}
 use Rattle.gen_laws.specs.Laws.{CompiledRunsMember}
 use Rattle.gen_laws.proofs.Methods.{Fits}
 
-pub runs_as_found : (p : Program) (files : List ClassFile) (b : Bounds) (heap : List Thing) (call : Call) (q : Placed) (file : ClassFile) (method : MemberInfo) → IsMethodOf (hier_in p.classes) q.head q.member file method b.turn → RunsAs files heap call file method → RunsMember p files b heap call q
-runs_as_found p files b heap call q file method is runs = (file, method, runs, open_traces (hier_in p.classes) q.head q.member file method b.turn is.code is.keeps is.few)
+pub runs_as_found : (p : Program) (files : List ClassFile) (b : Bounds) (heap : List Thing) (call : Call) (q : Placed) (file : ClassFile) (method : MemberInfo) → IsMethodOf (hier_in p.classes) q.head q.member file method b.turn → KeepsReceiver (hier_in p.classes) q.head q.member → RunsAs files heap call file method → RunsMember p files b heap call q
+runs_as_found p files b heap call q file method is kept runs = (file, method, runs, open_traces (hier_in p.classes) q.head q.member file method b.turn is.code kept is.few)
 
 pub runs_member : CompiledRunsMember
-runs_member p files b heap call q at file method found file_there method_there role descriptor is given =
+runs_member p files b heap call q at file method found file_there method_there role descriptor is kept given =
     let f = code_enters (hier_in p.classes) q.head q.member file method is.code call.args given in
-    runs_as_found p files b heap call q file method is (record { at = at; found = found; file_there = file_there; method_there = method_there; role = role; descriptor = descriptor; frame = f.0; enters = f.1 })
+    runs_as_found p files b heap call q file method is kept (record { at = at; found = found; file_there = file_there; method_there = method_there; role = role; descriptor = descriptor; frame = f.0; enters = f.1 })
 
 -- whether a method that fits has a receiver
 fits_received : (of_kind : MethodKind → Bool) (m : Method) (head : Iface) (x : Candidate) → Fits of_kind m head x → has_receiver head x.member.part ≡ not (is_static x.method.kind)

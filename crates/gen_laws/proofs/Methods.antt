@@ -67,8 +67,8 @@ module _ (of_kind : MethodKind → Bool) (m : Method) (head : Iface) where
     by_method None there = tt
     by_method (Some method) there = by_test method there (of_kind method.kind && is_named m method) refl
 
-  -- the first of a class's members that is such a method
-  pub record IsFirst (members : List TypedMember) (x : Candidate) : Type 0 where
+  -- one of a class's members is such a method
+  pub record IsOne (members : List TypedMember) (x : Candidate) : Type 0 where
     pub index : ℕ
     pub there : slice_get members index ≡ Some x.member
     pub fits : Fits x
@@ -97,14 +97,21 @@ module _ (of_kind : MethodKind → Bool) (m : Method) (head : Iface) where
     by_method None h e = absurd (false≢true (ap is_some e))
     by_method (Some c) h e = by_test c h (of_kind c.method.kind && is_named m c.method) e
 
-  first_is : (members : List TypedMember) (x : Candidate) → slice_get (filter_map (as_named of_kind m head) members) 0 ≡ Some x → IsFirst members x
-  first_is [] x e = absurd (false≢true (ap is_some e))
-  first_is (member ∷ members) x e = by_one (as_named of_kind m head member) (λ y e. member_is member y e) (by_part member member.part refl) (λ e. first_is members x e) e where
-    by_one : (o : Option Candidate) → ((y : Candidate) → o ≡ Some y → y.member ≡ member) → FitsIf o → (slice_get (filter_map (as_named of_kind m head) members) 0 ≡ Some x → IsFirst members x) → slice_get (cons_option o (filter_map (as_named of_kind m head) members)) 0 ≡ Some x → IsFirst (member ∷ members) x
-    by_one None same fits rec e = let r = rec e in record { index = suc r.index; there = r.there; fits = r.fits }
-    by_one (Some y) same fits rec e =
+  one_is : (members : List TypedMember) (j : ℕ) (x : Candidate) → slice_get (filter_map (as_named of_kind m head) members) j ≡ Some x → IsOne members x
+  one_is [] j x e = absurd (false≢true (ap is_some e))
+  one_is (member ∷ members) j x e = by_one (as_named of_kind m head member) (λ y e. member_is member y e) (by_part member member.part refl) (λ j e. one_is members j x e) j e where
+    Rec : Type 0
+    Rec = (j : ℕ) → slice_get (filter_map (as_named of_kind m head) members) j ≡ Some x → IsOne members x
+
+    behind : IsOne members x → IsOne (member ∷ members) x
+    behind r = record { index = suc r.index; there = r.there; fits = r.fits }
+
+    by_one : (o : Option Candidate) → ((y : Candidate) → o ≡ Some y → y.member ≡ member) → FitsIf o → Rec → (j : ℕ) → slice_get (cons_option o (filter_map (as_named of_kind m head) members)) j ≡ Some x → IsOne (member ∷ members) x
+    by_one None same fits rec j e = behind (rec j e)
+    by_one (Some y) same fits rec zero e =
         let is = one_there (Some y) y x refl e in
         record { index = zero; there = ap (λ (z : TypedMember). Some z) (sym (same x (ap (λ (z : Candidate). Some z) is))); fits = subst Fits is fits }
+    by_one (Some y) same fits rec (suc j) e = behind (rec j e)
 
   -- none of the members is such a method
   pub none_is : (members : List TypedMember) → filter_map (as_named of_kind m head) members ≡ [] → (i at : ℕ) (member : TypedMember) (method : IfaceMethod) → slice_get members i ≡ Some member → member.part ≡ part.Method at → slice_get head.methods at ≡ Some method → of_kind method.kind ≡ true → method.name ≡ m.name → method_descriptor method.params method.result ≡ m.descriptor → ⊥
@@ -127,8 +134,8 @@ module _ (of_kind : MethodKind → Bool) (m : Method) (head : Iface) where
         absurd (false≢true (ap is_some (sym k ∙ ap (as_named of_kind m head) is ∙ is_here)))
     by_one None k e (suc i) there rec = rec e i there
 
-pub first_of_class : (of_kind : MethodKind → Bool) (m : Method) (c : TypedClass) (x : Candidate) → slice_get (methods_in of_kind m c) 0 ≡ Some x → IsFirst of_kind m c.head c.members x
-first_of_class of_kind m c x e = first_is of_kind m c.head c.members x e
+pub one_of_class : (of_kind : MethodKind → Bool) (m : Method) (c : TypedClass) (j : ℕ) (x : Candidate) → slice_get (methods_in of_kind m c) j ≡ Some x → IsOne of_kind m c.head c.members x
+one_of_class of_kind m c j x e = one_is of_kind m c.head c.members j x e
 
 module _ (hier : Hier) (most : ℕ) (files : List ClassFile) (at : ℕ) (file : ClassFile) (file_there : slice_get files at ≡ Some file) (c : TypedClass) (is : IsFileOf hier c file most) where
   own_in : (name descriptor : List ℕ) → own_method files name descriptor at ≡ position (is_method name descriptor file) file.methods

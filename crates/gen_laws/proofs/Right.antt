@@ -36,6 +36,7 @@ use Rattle.jvm_step.specs.declared.state.State.{State}
 use Rattle.jvm_step.specs.Turn as step_of
 use Rattle.code_trace.specs.Calls.{key_of_method}
 use Rattle.code_trace.specs.Given.{has_receiver, are_given, are_for}
+use Rattle.gen_body.specs.Correct.{KeepsReceiver}
 use Rattle.gen_body.proofs.Members.{code_enters, open_traces}
 use Rattle.whole_program.specs.Fits.{Enters}
 use Rattle.whole_program.specs.Right.{Bounds, Naming, call_to, RunsAs, RunsMember, Selecting, Reaches, StartsMain}
@@ -43,18 +44,19 @@ use Rattle.whole_program.specs.Found.{IsFirstFrom}
 use Rattle.whole_program.proofs.Found.{own_is_run}
 use Rattle.whole_program.proofs.Entered.{running, entry_of}
 use Rattle.whole_program.proofs.Linked.{right_keeps}
+use Rattle.calls_fit.proofs.Members.{calls_fit}
 use Rattle.gen_laws.specs.Compiled.{Name, name_of_part, IsMethodOf, IsCompiled}
-use Rattle.gen_laws.specs.Plain.{IsNamed, NearestIsSelected}
+use Rattle.gen_laws.specs.Plain.{NearestIsSelected}
 use Rattle.gen_laws.specs.Laws.{CompiledIsRight, CompiledKeepsTheMeaning}
 use Rattle.gen_laws.proofs.Lists.{one_there}
 use Rattle.gen_laws.proofs.Lines.{reach}
-use Rattle.gen_laws.proofs.Names.{equal_bytes, classes_are, file_at, named_so, placed_at, Coded, coded}
-use Rattle.gen_laws.proofs.Methods.{same_name, Fits, first_of_class, own_of}
+use Rattle.gen_laws.proofs.Names.{Named, named_of, equal_bytes, classes_are, file_at, named_so, placed_at, Coded, coded}
+use Rattle.gen_laws.proofs.Methods.{same_name, Fits, one_of_class, own_of}
 use Rattle.gen_laws.proofs.Constructors.{maker_is}
 use Rattle.gen_laws.proofs.Chains.{name_for, called_so, super_is, have_none, FoundBody, found_body}
 use Rattle.gen_laws.proofs.Members.{runs_as_found, body_plain, static_so, takes_nothing}
 
-module _ (p : Program) (files : List ClassFile) (b : Bounds) (names : IsNamed p) (nearest : NearestIsSelected p) (compiled : IsCompiled p files b.turn) where
+module _ (p : Program) (files : List ClassFile) (b : Bounds) (names : Named p) (nearest : NearestIsSelected p) (compiled : IsCompiled p files b.turn) where
   abbrev classes : List Class
   classes = classes_of files
 
@@ -79,6 +81,7 @@ module _ (p : Program) (files : List ClassFile) (b : Bounds) (names : IsNamed p)
     method_there : slice_get file.methods index ≡ Some method
     own : own_method files m.name m.descriptor code.at ≡ Some index
     method_is : IsMethodOf (hier_in p.classes) x.head x.member file method b.turn
+    kept : KeepsReceiver (hier_in p.classes) x.head x.member
     fits : Fits is_static m x.head x
 
   static_found : (m : Method) (q : Placed) → static_named p.classes m ≡ Some q → Static m q
@@ -88,7 +91,7 @@ module _ (p : Program) (files : List ClassFile) (b : Bounds) (names : IsNamed p)
     by_first c k (Some x) first e =
         let code = coded p files b.turn names compiled m.class c k in
         let f = file_at p files b.turn names compiled code.at c code.there in
-        let h = first_of_class is_static m c x first in
+        let h = one_of_class is_static m c 0 x first in
         let own = own_of (hier_in p.classes) b.turn files code.at f.file f.there c f.is h.index x.member (name_for m) h.there (called_so is_static m c.head x refl h.fits) in
         let head : c.head ≡ x.head = sym h.fits.head_is in
         record {
@@ -103,6 +106,7 @@ module _ (p : Program) (files : List ClassFile) (b : Bounds) (names : IsNamed p)
           method_there = own.there;
           own = own.own;
           method_is = subst (λ (h : Iface). IsMethodOf (hier_in p.classes) h x.member f.file own.method b.turn) head own.method_is;
+          kept = subst (λ (h : Iface). KeepsReceiver (hier_in p.classes) h x.member) head (names.kept code.at h.index c x.member code.there h.there);
           fits = subst (λ (h : Iface). Fits is_static m h x) head h.fits;
         }
 
@@ -117,7 +121,7 @@ module _ (p : Program) (files : List ClassFile) (b : Bounds) (names : IsNamed p)
       let f = code_enters (hier_in p.classes) r.x.head r.x.member r.file r.method r.method_is.code vs given in
       let run = own_is_run files s.heap (key_of_method m) vs r.code.at r.index r.file r.method f.0 r.file_there r.own r.method_there f.1 in
       subst (RunsMember p files b s.heap (call_to (StaticMethod (key_of_method m)) vs)) r.same
-      (runs_as_found p files b s.heap (call_to (StaticMethod (key_of_method m)) vs) (placed r.x) r.file r.method r.method_is
+      (runs_as_found p files b s.heap (call_to (StaticMethod (key_of_method m)) vs) (placed r.x) r.file r.method r.method_is r.kept
       (run.static r.code.at r.code.placed (first_here m r.code.at r.index r.c r.code.there r.own) (static_so p m r.x r.file r.method b.turn r.fits r.method_is)))
 
   constructor_right : (m : Method) (q : Placed) → m.name ≡ codes "<init>" → constructor_named p.classes m ≡ Some q → (vs : List Value) (s : Store) → s.classes ≡ classes → Enters p q vs s → RunsMember p files b s.heap (call_to (Constructor (key_of_method m)) vs) q
@@ -134,9 +138,10 @@ module _ (p : Program) (files : List ClassFile) (b : Bounds) (names : IsNamed p)
         ∙ ap (λ (n : Name). Some n) (same_name n (name_for m) (sym init) h.makes.descriptor) in
         let own = own_of (hier_in p.classes) b.turn files code.at f.file f.there c f.is h.index q.member (name_for m) h.there called in
         let is = subst (λ (h : Iface). IsMethodOf (hier_in p.classes) h q.member f.file own.method b.turn) (sym h.makes.head_is) own.method_is in
+        let kept = subst (λ (h : Iface). KeepsReceiver (hier_in p.classes) h q.member) (sym h.makes.head_is) (names.kept code.at h.index c q.member code.there h.there) in
         let g = code_enters (hier_in p.classes) q.head q.member f.file own.method is.code vs enters.given.kinds in
         let run = own_is_run files s.heap (key_of_method m) vs code.at own.index f.file own.method g.0 f.there own.own own.there g.1 in
-        runs_as_found p files b s.heap (call_to (Constructor (key_of_method m)) vs) q f.file own.method is
+        runs_as_found p files b s.heap (call_to (Constructor (key_of_method m)) vs) q f.file own.method is kept
         (run.constructor code.placed (is.role ∙ ap (λ (t : TypedPart). not (has_receiver q.head t)) h.makes.part_is))
 
   -- a class that is called as it is in code
@@ -158,7 +163,7 @@ module _ (p : Program) (files : List ClassFile) (b : Bounds) (names : IsNamed p)
 
     by_class : (i : ℕ) (x : Option TypedClass) → slice_get p.classes i ≡ x → option_map_or (λ (k : Class). word_of k.name) (option_map (λ (d : TypedClass). class_of_head d.head) x) object ≡ class → i ≡ at
     by_class i None k is = absurd (no_object is)
-    by_class i (Some d) k is = names.distinct i at d c k there (sym (word_is i d k) ∙ is ∙ sym named)
+    by_class i (Some d) k is = names.names.distinct i at d c k there (sym (word_is i d k) ∙ is ∙ sym named)
 
     by_name : (i : ℕ) → name_at s.classes i ≡ class → i ≡ at
     by_name i is =
@@ -180,7 +185,7 @@ module _ (p : Program) (files : List ClassFile) (b : Bounds) (names : IsNamed p)
   -- a call that finds it reaches the body itself
   reaches_body : (naming : Naming) (m : Method) (class : Word) (vs : List Value) (s : Store) (k : Selecting p files m class vs s) (r : FoundBody p files b.turn names compiled m class k.candidate) (target : Target) → RunsAs files s.heap (call_to target vs) r.file r.method → Reaches p files naming b m class vs s k (call_to target vs)
   reaches_body naming m class vs s k r target runs =
-      inl (record { at = r.fits.at; part = r.fits.part_is; method = r.fits.method_there; runs = runs_as_found p files b s.heap (call_to target vs) (placed k.candidate) r.file r.method r.method_is runs })
+      inl (record { at = r.fits.at; part = r.fits.part_is; method = r.fits.method_there; runs = runs_as_found p files b s.heap (call_to target vs) (placed k.candidate) r.file r.method r.method_is r.kept runs })
 
   virtual_right : (naming : Naming) (m : Method) (class : Word) (vs : List Value) (s : Store) (k : Selecting p files m class vs s) → receiver_class s vs ≡ Some class → Reaches p files naming b m class vs s k (call_to (VirtualMethod m.name m.descriptor) vs)
   virtual_right naming m class vs s k e =
@@ -202,7 +207,7 @@ module _ (p : Program) (files : List ClassFile) (b : Bounds) (names : IsNamed p)
       reaches_body naming m (word_of m.class) vs s k r (MethodAbove current m.name m.descriptor) (run.above current r.at up r.first (body_plain p m k.candidate r.file r.method b.turn r.fits r.method_is))
 
   -- `main` takes nothing
-  main_given : (r : Static (main_of p.main) names.main) → are_for names.main.head names.main.member.part [] ≡ true
+  main_given : (r : Static (main_of p.main) names.names.main) → are_for names.names.main.head names.names.main.member.part [] ≡ true
   main_given r =
       sym (ap (λ (q : Placed). are_for q.head q.member.part []) r.same) ∙ ap (λ (t : TypedPart). are_for r.x.head t []) r.fits.part_is
       ∙ ap (λ (o : Option IfaceMethod). option_map_or (λ method. cond (is_static method.kind) (are_of method.params []) (are_given method.params [])) o false) r.fits.method_there
@@ -211,16 +216,17 @@ module _ (p : Program) (files : List ClassFile) (b : Bounds) (names : IsNamed p)
 
   main_right : StartsMain p files b
   main_right =
-      let r = static_found (main_of p.main) names.main names.main_there in
+      let r = static_found (main_of p.main) names.names.main names.names.main_there in
       let is = subst (λ (q : Placed). IsMethodOf (hier_in p.classes) q.head q.member r.file r.method b.turn) r.same r.method_is in
-      let f = code_enters (hier_in p.classes) names.main.head names.main.member r.file r.method is.code [] (main_given r) in
+      let kept = subst (λ (q : Placed). KeepsReceiver (hier_in p.classes) q.head q.member) r.same r.kept in
+      let f = code_enters (hier_in p.classes) names.names.main.head names.names.main.member r.file r.method is.code [] (main_given r) in
       let at : ℕ × ℕ = (r.code.at, r.index) in
       let key = key_of_method (main_of p.main) in
       let enters : step_of.entry files true [] at ≡ Some (running at f.0) = entry_of files (call_to (StaticMethod key) []) at r.file r.method f.0 r.file_there r.method_there (static_so p (main_of p.main) r.x r.file r.method b.turn r.fits r.method_is) f.1 in
       let begins : Running → Option State = λ running. Some (record { current = running; callers = []; heap = []; statics = first_statics classes }) in
       record {
-        member = names.main;
-        named = names.main_there;
+        member = names.names.main;
+        named = names.names.main_there;
         at = at;
         frame = f.0;
         starts = ap (λ (o : Option ℕ). option_and_then (λ at. option_and_then (λ m. option_and_then begins (step_of.entry files true [] (at, m))) (own_method files (codes "main") (codes "()V") at)) o) r.code.placed
@@ -231,22 +237,24 @@ module _ (p : Program) (files : List ClassFile) (b : Bounds) (names : IsNamed p)
         method = r.method;
         method_there = r.method_there;
         enters = f.1;
-        has = open_traces (hier_in p.classes) names.main.head names.main.member r.file r.method b.turn is.code is.keeps is.few;
+        has = open_traces (hier_in p.classes) names.names.main.head names.names.main.member r.file r.method b.turn is.code kept is.few;
       }
 
 pub is_right : CompiledIsRight
-is_right p files naming b names nearest compiled = record {
-  classes = classes_are p files b.turn names compiled;
-  main = main_right p files b names nearest compiled;
-  static = static_right p files b names nearest compiled;
-  constructor = constructor_right p files b names nearest compiled;
-  virtual = virtual_right p files b names nearest compiled naming;
-  above = λ c position there m vs s k super whole. above_right p files b names nearest compiled naming c position there m vs s k super;
-}
+is_right p files naming b fits named nearest compiled =
+    let names = named_of p fits named in
+    record {
+      classes = classes_are p files b.turn names compiled;
+      main = main_right p files b names nearest compiled;
+      static = static_right p files b names nearest compiled;
+      constructor = constructor_right p files b names nearest compiled;
+      virtual = virtual_right p files b names nearest compiled naming;
+      above = λ c position there m vs s k super whole. above_right p files b names nearest compiled naming c position there m vs s k super;
+    }
 
 -- without dispatchers there is nothing to be named
 abbrev no_names : Naming
 no_names = record { body = λ c. []; helper = λ c a. record { class = []; name = []; descriptor = [] } }
 
 pub keeps_the_meaning : CompiledKeepsTheMeaning
-keeps_the_meaning p files b names nearest fits compiled = right_keeps p files no_names b fits (is_right p files no_names b names nearest compiled)
+keeps_the_meaning p files b fits named nearest compiled = right_keeps p files no_names b (calls_fit p fits) (is_right p files no_names b fits named nearest compiled)

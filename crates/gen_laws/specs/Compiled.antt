@@ -19,7 +19,7 @@ use Rattle.jp_meaning.specs.Run.{Program}
 use Rattle.jvm_load.specs.FileClasses.{text_at, is_static, class_of}
 use Rattle.code_trace.specs.Given.{has_receiver}
 use Rattle.gen_body.specs.Members.{member_code}
-use Rattle.gen_body.specs.Correct.{IsCodeOf, KeepsReceiver}
+use Rattle.gen_body.specs.Correct.{IsCodeOf}
 
 -- a method's name, and its descriptor
 pub record Name : Type 0 where
@@ -50,7 +50,6 @@ pub record IsMethodOf (hier : Hier) (head : Iface) (m : TypedMember) (file : Cla
   pub named : name_of_part head m.part ≡ Some (name_in file method)
   pub role : is_static method ≡ not (has_receiver head m.part)
   pub code : IsCodeOf hier head m file method
-  pub keeps : KeepsReceiver hier head m
   pub few : length (member_code hier head m).items ≤ most
 
 -- a member has a method in its class's file

@@ -1,3 +1,0 @@
-pub mod OfExpressions
-pub mod OfStatements
-pub mod OfMembers
