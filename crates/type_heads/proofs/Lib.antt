@@ -1,0 +1,4 @@
+pub mod Levels
+pub mod Misfits
+pub mod Search
+pub mod Upwards
