@@ -6,3 +6,7 @@ mod Types
 mod Operands
 mod Arguments
 mod OfExpressions
+mod FromExpressions
+mod GuardEquations
+mod Sums
+mod OfGuards
