@@ -10,3 +10,4 @@ mod FromExpressions
 mod GuardEquations
 mod Sums
 mod OfGuards
+mod StmtEquations

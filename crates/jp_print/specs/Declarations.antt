@@ -14,9 +14,9 @@ use Rattle.jp_ast.specs.declared.decl.MemberPart.{MemberPart}
 use Rattle.jp_ast.specs.declared.decl.MemberPart.TheVariants as part
 use Rattle.jp_ast.specs.declared.sign.TheConstants as sign
 use Rattle.jp_print.specs.Layout.{laid_out}
-use Rattle.jp_print.specs.Expressions.{in_parens, commas, maybe, type_tokens, expr_tokens}
+use Rattle.jp_print.specs.Expressions.{in_parens, commas, maybe, type_tokens, arguments, printed_expr}
 use Rattle.jp_print.specs.Guards.{guard_tokens}
-use Rattle.jp_print.specs.Statements.{in_braces, stmt_tokens, block_tokens}
+use Rattle.jp_print.specs.Statements.{in_braces, printed_stmt, all_tokens, block_tokens}
 
 -- the word, where it is to stand there
 abbrev pub word_if : Bool → List ℕ → List Lexeme
@@ -49,17 +49,17 @@ when_guard guard = Word (codes "when") ∷ guard_tokens guard
 
 -- `super`, its arguments, and `;`
 abbrev pub super_call : List Expr → List Lexeme
-super_call args = Word (codes "super") ∷ in_parens (commas (map expr_tokens args)) ++ Sign sign.SEMICOLON ∷ []
+super_call args = Word (codes "super") ∷ arguments (map printed_expr args) ++ Sign sign.SEMICOLON ∷ []
 
 -- the part of a member, of an interface or of a class: only a class says `abstract`
 abbrev pub part_tokens : Bool → List ℕ → List Param → MemberPart → List Lexeme
 part_tokens in_interface name params (part.Field ty static) = word_if static (codes "static") ++ type_tokens ty ++ Word name ∷ Sign sign.SEMICOLON ∷ []
-part_tokens in_interface name params (part.Static result block) = Word (codes "static") ∷ signature result name params ++ block_tokens block
+part_tokens in_interface name params (part.Static result block) = Word (codes "static") ∷ signature result name params ++ block_tokens (map printed_stmt block)
 part_tokens false name params (part.Abstract result) = Word (codes "abstract") ∷ signature result name params ++ Sign sign.SEMICOLON ∷ []
 part_tokens true name params (part.Abstract result) = signature result name params ++ Sign sign.SEMICOLON ∷ []
-part_tokens in_interface name params (part.Body result guard block) = signature result name params ++ maybe when_guard guard ++ block_tokens block
+part_tokens in_interface name params (part.Body result guard block) = signature result name params ++ maybe when_guard guard ++ block_tokens (map printed_stmt block)
 part_tokens in_interface name params (part.Constructor args block) =
-    named_params name params ++ in_braces (maybe super_call args ++ flat_map stmt_tokens block)
+    named_params name params ++ in_braces (maybe super_call args ++ all_tokens (map printed_stmt block))
 
 -- a member of an interface or of a class
 abbrev pub member_tokens : Bool → Member → List Lexeme

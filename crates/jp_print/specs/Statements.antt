@@ -26,6 +26,14 @@ unended tokens = record { tokens = tokens; inner = tokens }
 abbrev pub in_braces : List Lexeme → List Lexeme
 in_braces tokens = Sign sign.OPEN_BRACE ∷ tokens ++ Sign sign.CLOSE_BRACE ∷ []
 
+-- statements one behind the other
+abbrev pub all_tokens : List PrintedStmt → List Lexeme
+all_tokens block = flat_map (λ s. s.tokens) block
+
+-- statements in braces
+abbrev pub block_tokens : List PrintedStmt → List Lexeme
+block_tokens block = in_braces (all_tokens block)
+
 -- `=` and the value that a local begins with
 abbrev pub initial_value : Expr → List Lexeme
 initial_value value = Sign sign.ASSIGN ∷ expr_tokens value
@@ -45,7 +53,7 @@ for_head init test change =
 
 -- each form of a statement, over what its statements are printed as
 abbrev pub stmt_step : StmtKind-F PrintedStmt PrintedStmt → PrintedStmt
-stmt_step (stmt_kind.Block block) = unended (in_braces (flat_map (λ s. s.tokens) block))
+stmt_step (stmt_kind.Block block) = unended (block_tokens block)
 stmt_step stmt_kind.Empty = ended []
 stmt_step (stmt_kind.Local ty name value) = ended (type_tokens ty ++ Word name ∷ maybe initial_value value)
 stmt_step (stmt_kind.If test first second) = unended (Word (codes "if") ∷ condition test ++ first.tokens ++ maybe else_branch second)
@@ -61,11 +69,3 @@ stmt_step (stmt_kind.Run value) = ended (operand_tokens value)
 -- a statement as it is printed
 unfoldable pub printed_stmt : Stmt → PrintedStmt
 printed_stmt = fold-Stmt PrintedStmt PrintedStmt stmt_step (λ s. s.kind)
-
--- the tokens of a statement
-abbrev pub stmt_tokens : Stmt → List Lexeme
-stmt_tokens s = (printed_stmt s).tokens
-
--- statements in braces
-abbrev pub block_tokens : List Stmt → List Lexeme
-block_tokens block = in_braces (flat_map stmt_tokens block)
