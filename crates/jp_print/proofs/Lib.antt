@@ -11,3 +11,4 @@ mod GuardEquations
 mod Sums
 mod OfGuards
 mod StmtEquations
+mod OfStatements
