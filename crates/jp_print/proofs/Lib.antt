@@ -12,3 +12,5 @@ mod Sums
 mod OfGuards
 mod StmtEquations
 mod OfStatements
+mod OfMembers
+mod OfUnits
