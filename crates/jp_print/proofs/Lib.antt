@@ -14,3 +14,4 @@ mod StmtEquations
 mod OfStatements
 mod OfMembers
 mod OfUnits
+mod Placeless
