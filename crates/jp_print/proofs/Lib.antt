@@ -15,3 +15,4 @@ mod OfStatements
 mod OfMembers
 mod OfUnits
 mod Placeless
+mod Blind

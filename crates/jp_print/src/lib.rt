@@ -9,7 +9,7 @@ ghost use Rattle.jp_print.specs.Places.{unplaced_unit};
 use jp_ast::SourceUnit;
 use std::alloc::{AllocError, Global};
 
-#[tactic(auto, using(crate::proofs::OfUnits::unit_again, crate::proofs::Placeless::expr_fold))]
+#[tactic(auto, using(crate::proofs::OfUnits::unit_again, crate::proofs::Blind::unit_deep))]
 pub fn probe(unit: &SourceUnit)
     ensures one { printed_unit unit.now ≡ printed_unit unit.now }
     ensures two { unplaced_unit unit.now ≡ unplaced_unit unit.now }
