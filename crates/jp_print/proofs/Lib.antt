@@ -16,3 +16,6 @@ mod OfMembers
 mod OfUnits
 mod Placeless
 mod Blind
+mod Numbers
+mod Lexing
+mod ReadBack
