@@ -156,9 +156,10 @@ one_held c proper = record {
         let w = wanted_first c (is_wide c) [] in
         let spelled : with_rest c ≡ c ∷ w.0 = sym (append-nil (with_rest c)) ∙ w.1 in
         let found : list_any (is_same c) (list ++ with_rest c) ≡ true =
-            list_any-append (is_same c) list (with_rest c) ∙ ap (λ b. b || list_any (is_same c) (with_rest c)) e ∙ ap (list_any (is_same c)) spelled ∙ ap (λ b. b || list_any (is_same c) w.0) proper in
+        list_any-append (is_same c) list (with_rest c) ∙ ap (λ b. b || list_any (is_same c) (with_rest c)) e ∙ ap (list_any (is_same c)) spelled ∙ ap (λ b. b || list_any (is_same c) w.0) proper in
         ap (λ b. record { constants = if b then list ++ with_rest c else (list ++ with_rest c) ++ with_rest c; index = 1 + position_or_len (is_same c) (list ++ with_rest c) }) found
         ∙ ap (λ n. record { constants = list ++ with_rest c; index = 1 + n }) (ap (λ l. position_or_len (is_same c) (list ++ l)) spelled ∙ behind_none c list w.0 e proper)
+
     goes_on : (list : List Const) (b : Bool) → Extends list (if b then list else list ++ with_rest c)
     goes_on list true = ([], sym (append-nil list))
     goes_on list false = (with_rest c, refl)
@@ -187,7 +188,7 @@ then_held f g F G = record {
       let e = (G i).extends fc in
       let there : (f fc).constants ≡ fc = ap (λ h. h.constants) (F.twice list) in
       let first : f (g i fc).constants ≡ record { constants = (g i fc).constants; index = i } =
-          ap f e.1 ∙ F.again fc e.0 there ∙ ap (λ n. record { constants = fc ++ e.0; index = n }) (ap (λ h. h.index) (F.twice list)) ∙ ap (λ l. record { constants = l; index = i }) (sym e.1) in
+      ap f e.1 ∙ F.again fc e.0 there ∙ ap (λ n. record { constants = fc ++ e.0; index = n }) (ap (λ h. h.index) (F.twice list)) ∙ ap (λ l. record { constants = l; index = i }) (sym e.1) in
       ap (λ h. g h.index h.constants) first ∙ (G i).twice fc;
 }
 

@@ -124,11 +124,7 @@ fn encode_increase(slot: u16, by: i32) -> Option<Encoded>
     ensures { option_map spelled result ≡ increase_bytes slot by }
 {
     if slot < 256 && -128 <= by && by < 128 {
-        Some(Encoded::WithTwo(
-            0x84,
-            slot as u8,
-            (by as i8).cast_unsigned(),
-        ))
+        Some(Encoded::WithTwo(0x84, slot as u8, (by as i8).cast_unsigned()))
     } else {
         None
     }

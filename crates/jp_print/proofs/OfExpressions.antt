@@ -339,7 +339,9 @@ module _ (p : Place) (elem : Ty) (e : IsElem elem) (size : Expr) (a : Again size
       array_parts s h (read_elem elem e r.front) r.back q.back nb
 
   pub array_again : Again (array_at p elem size)
-  array_again = again_as _ _ (by.printed_array p elem size) (creates _ _
-      (new_word.form, formed_append (type_tokens elem ++ Sign sign.OPEN_BRACKET ∷ expr_tokens size) _
-      (formed_append (type_tokens elem) _ (elem_formed elem e) (sign_formed sign.OPEN_BRACKET (omega arith), a.formed))
-      (sign_formed sign.CLOSE_BRACKET (omega arith), tt)) array_read)
+  array_again = again_as _ _ (by.printed_array p elem size) (creates _ _ (
+    new_word.form,
+    formed_append (type_tokens elem ++ Sign sign.OPEN_BRACKET ∷ expr_tokens size) _
+        (formed_append (type_tokens elem) _ (elem_formed elem e) (sign_formed sign.OPEN_BRACKET (omega arith), a.formed))
+        (sign_formed sign.CLOSE_BRACKET (omega arith), tt),
+  ) array_read)

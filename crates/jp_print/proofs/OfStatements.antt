@@ -341,13 +341,13 @@ module _ (p : Place) (e : Expr) (ae : expr.Again e) where
         let x = read_condition e ae q.front in
         let y = a.read _ _ q.back in
         nothing_behind s h x.tree x.same x.reads y o.back where
-      nothing_behind : {xs ms ns zs : Tokens} (s : Token) → s.lexeme ≡ Word (codes "if") → (u : Expr) → unplaced u ≡ unplaced e → Test xs u ms → Reading (StatementOf inner) unplaced_stmt ms first ns → Goes [] ns zs →
-          Reading (StatementOf true) unplaced_stmt (s ∷ xs) (if_at p e first None) zs
-      nothing_behind s h u same x y done = record {
-        tree = if_at s.place u y.tree None;
-        reads = when_true (is if_word s h) x y.reads no_else;
-        same = by.unplaced_if s.place u y.tree None ∙ ap (λ z. if_at nowhere z (unplaced_stmt y.tree) None) same ∙ ap (λ z. if_at nowhere (unplaced e) z None) y.same ∙ sym (by.unplaced_if p e first None);
-      }
+          nothing_behind : {xs ms ns zs : Tokens} (s : Token) → s.lexeme ≡ Word (codes "if") → (u : Expr) → unplaced u ≡ unplaced e → Test xs u ms → Reading (StatementOf inner) unplaced_stmt ms first ns → Goes [] ns zs →
+              Reading (StatementOf true) unplaced_stmt (s ∷ xs) (if_at p e first None) zs
+          nothing_behind s h u same x y done = record {
+            tree = if_at s.place u y.tree None;
+            reads = when_true (is if_word s h) x y.reads no_else;
+            same = by.unplaced_if s.place u y.tree None ∙ ap (λ z. if_at nowhere z (unplaced_stmt y.tree) None) same ∙ ap (λ z. if_at nowhere (unplaced e) z None) y.same ∙ sym (by.unplaced_if p e first None);
+          }
 
     pub if_again : (inner : Bool) → AgainAs first inner → AgainAs (if_at p e first None) true
     if_again inner a = again_as _ _ _ (by.printed_if p e first None) (record {

@@ -1,4 +1,4 @@
-//! Prints a unit as a text that reads back as the same unit.
+//! How units are printed, as definitions, and the law that what is printed reads back as the same unit.
 #![tactic(auto)]
 
 mod laws;
