@@ -23,7 +23,7 @@ use Rattle.jp_grammar.specs.Depth.{greatest, or_zero, depth_step, depth, depth_o
 use Rattle.jp_grammar.specs.Faults.{deepest_of_stmt, deepest_of_block, deepest_of_guard, deepest_of_args, deepest_of_part, deepest_of_member, deepest_of_decl, deepest_of_unit}
 use Rattle.jp_print.specs.Expressions.{Printed, in_parens, commas, maybe, type_tokens, operand, expr_step, printed_expr, expr_tokens, operand_tokens, arguments}
 use Rattle.jp_print.specs.Guards.{PrintedGuard, path_tokens, term_tokens, first_summand, next_summand, sum_tokens, atomic, as_name, guard_step, printed_guard, guard_tokens}
-use Rattle.jp_print.specs.Statements.{PrintedStmt, ended, unended, condition, initial_value, else_branch, for_head, block_tokens, all_tokens, in_braces, stmt_step, printed_stmt}
+use Rattle.jp_print.specs.Statements.{PrintedStmt, ended, unended, whole, condition, initial_value, else_branch, for_init, for_change, block_tokens, all_tokens, in_braces, stmt_step, printed_stmt}
 use Rattle.jp_print.specs.Declarations.{word_if, param_tokens, named_params, signature, when_guard, super_call, part_tokens, member_tokens, class_head, interface_head, decl_tokens, unit_tokens}
 use Rattle.jp_print.specs.Places.{unplaced, unplaced_path, unplaced_summand, unplaced_layer, unplaced_guard, unplaced_stmt_layer, unplaced_stmt, unplaced_param, unplaced_part, unplaced_member, unplaced_decl, unplaced_unit}
 use Rattle.jp_print.proofs.Placeless.{expr_fold, guard_fold, stmt_fold}
@@ -113,10 +113,10 @@ stmt_step_blind : (z : StmtKind-F PrintedStmt PrintedStmt) → stmt_step (unplac
 stmt_step_blind (s.Block block) = refl
 stmt_step_blind s.Empty = refl
 stmt_step_blind (s.Local ty name value) = ap (λ x. ended (type_tokens ty ++ Word name ∷ x)) (maybe_blind initial_value unplaced (λ t. ap (λ x. Sign sign.ASSIGN ∷ x) (tokens_blind t)) value)
-stmt_step_blind (s.If test first second) = ap (λ x. unended (Word (codes "if") ∷ in_parens x ++ first.tokens ++ maybe else_branch second)) (tokens_blind test)
-stmt_step_blind (s.While test body) = ap (λ x. unended (Word (codes "while") ∷ in_parens x ++ body.tokens)) (tokens_blind test)
+stmt_step_blind (s.If test first second) = ap (λ x. unended (Word (codes "if") ∷ in_parens x ++ whole first ++ maybe else_branch second)) (tokens_blind test)
+stmt_step_blind (s.While test body) = ap (λ x. unended (Word (codes "while") ∷ in_parens x ++ whole body)) (tokens_blind test)
 stmt_step_blind (s.For init test change body) =
-    ap (λ x. unended (Word (codes "for") ∷ in_parens (maybe (λ i. i.inner) init ++ Sign sign.SEMICOLON ∷ x ++ Sign sign.SEMICOLON ∷ maybe (λ c. c.inner) change) ++ body.tokens)) (maybe_blind expr_tokens unplaced tokens_blind test)
+    ap (λ x. unended (for_init init ++ (Sign sign.SEMICOLON ∷ x) ++ for_change change ++ whole body)) (maybe_blind expr_tokens unplaced tokens_blind test)
 stmt_step_blind s.Break = refl
 stmt_step_blind s.Continue = refl
 stmt_step_blind (s.Return value) = ap (λ x. ended (Word (codes "return") ∷ x)) (maybe_blind expr_tokens unplaced tokens_blind value)

@@ -19,3 +19,4 @@ mod Blind
 mod Numbers
 mod Lexing
 mod ReadBack
+mod Joined

@@ -12,7 +12,7 @@ use Rattle.jp_grammar.specs.declared.kind.Kind.TheVariants as k
 use Rattle.jp_grammar.specs.Kinds.{Is, IsSign, IsName, Tokens, place_of, nowhere}
 use Rattle.jp_grammar.specs.Trees.{number_at, text_at, truth_at, null_at, this_at, unary_at, binary_at, instance_at, cond_at, cast_at, named_at, called_at, index_at, super_at, new_at, array_at}
 use Rattle.jp_grammar.specs.Expressions.{Expression, Level, Unary, Plain, Postfix, Steps, Primary, NewArray, Bracketed, NoBracket, strength, is_negation, is_inversion, expression, unconditional, conditional, alternative, weaker, chain_end, chain_sign, chain_instance, negation, unary_plain, inversion, cast, postfix, postfix_array, steps_end, member, element, uncalled, called, number, text, truth, falsehood, nothing, receiver, name, super_call, new_object, new_array, bracketed}
-use Rattle.jp_print.specs.Expressions.{Printed, in_parens, primary, created, loose, operand, array, arguments, dot_name, type_tokens, truth_word, printed_expr, expr_tokens, operand_tokens}
+use Rattle.jp_print.specs.Expressions.{Printed, in_parens, in_brackets, primary, created, loose, operand, array, arguments, dot_name, type_tokens, truth_word, printed_expr, expr_tokens, operand_tokens}
 use Rattle.jp_print.specs.Expressions.{receiver as receiver_tokens}
 use Rattle.jp_print.specs.Places.{unplaced}
 use Rattle.jp_print.specs.ReadsBack.{HasForm}
@@ -232,29 +232,35 @@ module _ (p : Place) (word : List ℕ) (n : Nameable word) where
     pub field_again : Again (named_at p (Some o) word)
     field_again = again_as _ _ (by.printed_field p o word) (alone _ _ (formed_append (operand_tokens o) _ (operand_formed _ o a) dot_formed) field_read)
 
+index_parts : (i : Expr) → Again i → {xs ms ys : Tokens} → Goes (expr_tokens i) xs ms → Goes (Sign sign.CLOSE_BRACKET ∷ []) ms ys → Reading Bracketed unplaced xs i ys
+index_parts i a front (next {s = c} j done) =
+    let r = a.whole _ _ front (other_sign _ c j refl) in
+    record { tree = r.tree; reads = bracketed r.reads (is_sign _ c j); same = r.same }
+
+-- an index behind `[`
+read_index : (i : Expr) → Again i → {xs ys : Tokens} → Goes (expr_tokens i ++ Sign sign.CLOSE_BRACKET ∷ []) xs ys → Reading Bracketed unplaced xs i ys
+read_index i a g = let q = parted (expr_tokens i) (Sign sign.CLOSE_BRACKET ∷ []) g in index_parts i a q.front q.back
+
+brackets_formed : (i : Expr) → Again i → Formed (in_brackets (expr_tokens i))
+brackets_formed i a = (sign_formed sign.OPEN_BRACKET (omega arith), formed_append (expr_tokens i) _ a.formed (sign_formed sign.CLOSE_BRACKET (omega arith), tt))
+
 module _ (p : Place) (o i : Expr) (ao : Again o) (ai : Again i) where
-  index_parts : {xs ms ns ys : Tokens} → Goes (array (printed_expr o)) xs ms → Goes (Sign sign.OPEN_BRACKET ∷ expr_tokens i) ms ns → Goes (Sign sign.CLOSE_BRACKET ∷ []) ns ys → Operand xs (index_at p o i) ys
-  index_parts {xs = xs} front (next {s = b} h second) (next {s = c} j done) =
+  element_parts : {xs ms ys : Tokens} → Goes (array (printed_expr o)) xs ms → Goes (in_brackets (expr_tokens i)) ms ys → Operand xs (index_at p o i) ys
+  element_parts {xs = xs} front (next {s = b} h second) =
       let x = ao.array _ _ front in
-      let y = ai.whole _ _ second (other_sign _ c j refl) in
+      let y = read_index i ai second in
       let at = place_of xs in
       record {
         tree = index_at at x.tree y.tree;
         same = by.unplaced_index at x.tree y.tree ∙ ap (λ e. index_at nowhere e (unplaced y.tree)) x.same ∙ ap (λ e. index_at nowhere (unplaced o) e) y.same ∙ sym (by.unplaced_index p o i);
-        goes_on = λ st. x.goes_on (element (is_sign _ b h) (bracketed y.reads (is_sign _ c j)) st);
+        goes_on = λ st. x.goes_on (element (is_sign _ b h) y.reads st);
       }
 
-  index_read : ReadArray (array (printed_expr o) ++ Sign sign.OPEN_BRACKET ∷ expr_tokens i ++ Sign sign.CLOSE_BRACKET ∷ []) (index_at p o i)
-  index_read xs ys g =
-      let q = parted (array (printed_expr o) ++ Sign sign.OPEN_BRACKET ∷ expr_tokens i) (Sign sign.CLOSE_BRACKET ∷ []) g in
-      let r = parted (array (printed_expr o)) (Sign sign.OPEN_BRACKET ∷ expr_tokens i) q.front in
-      index_parts r.front r.back q.back
+  index_read : ReadArray (array (printed_expr o) ++ in_brackets (expr_tokens i)) (index_at p o i)
+  index_read xs ys g = let q = parted (array (printed_expr o)) (in_brackets (expr_tokens i)) g in element_parts q.front q.back
 
   pub index_again : Again (index_at p o i)
-  index_again = again_as _ _ (by.printed_index p o i) (alone _ _
-      (formed_append (array (printed_expr o) ++ Sign sign.OPEN_BRACKET ∷ expr_tokens i) _
-      (formed_append (array (printed_expr o)) _ (array_formed _ o ao) (sign_formed sign.OPEN_BRACKET (omega arith), ai.formed))
-      (sign_formed sign.CLOSE_BRACKET (omega arith), tt)) index_read)
+  index_again = again_as _ _ (by.printed_index p o i) (alone _ _ (formed_append (array (printed_expr o)) _ (array_formed _ o ao) (brackets_formed i ai)) index_read)
 
 -- ---- calls
 
@@ -323,25 +329,19 @@ module _ (p : Place) (word : List ℕ) (n : Nameable word) (ts : List Expr) (as'
 -- ---- a created array
 
 module _ (p : Place) (elem : Ty) (e : IsElem elem) (size : Expr) (a : Again size) where
-  array_parts : {xs ms ns ys : Tokens} (s : Token) → s.lexeme ≡ Word (codes "new") → OneElement elem xs ms → Goes (Sign sign.OPEN_BRACKET ∷ expr_tokens size) ms ns → Goes (Sign sign.CLOSE_BRACKET ∷ []) ns ys → NoBracket ys → Operand (s ∷ xs) (array_at p elem size) ys
-  array_parts s h (one_element t) (next {s = o} i g) (next {s = c} j done) nb =
-      let r = a.whole _ _ g (other_sign _ c j refl) in
+  array_parts : {xs ms ys : Tokens} (s : Token) → s.lexeme ≡ Word (codes "new") → OneElement elem xs ms → Goes (in_brackets (expr_tokens size)) ms ys → NoBracket ys → Operand (s ∷ xs) (array_at p elem size) ys
+  array_parts s h (one_element t) (next {s = o} i g) nb =
+      let r = read_index size a g in
       record {
         tree = array_at s.place elem r.tree;
         same = by.unplaced_array s.place elem r.tree ∙ ap (λ e. array_at nowhere elem e) r.same ∙ sym (by.unplaced_array p elem size);
-        goes_on = λ st. postfix_array (new_array (is new_word s h) t (is_sign _ o i) (bracketed r.reads (is_sign _ c j))) nb st;
+        goes_on = λ st. postfix_array (new_array (is new_word s h) t (is_sign _ o i) r.reads) nb st;
       }
 
-  array_read : ReadOperand (Word (codes "new") ∷ type_tokens elem ++ Sign sign.OPEN_BRACKET ∷ expr_tokens size ++ Sign sign.CLOSE_BRACKET ∷ []) (array_at p elem size)
+  array_read : ReadOperand (Word (codes "new") ∷ type_tokens elem ++ in_brackets (expr_tokens size)) (array_at p elem size)
   array_read xs ys (next {s = s} h g) nb =
-      let q = parted (type_tokens elem ++ Sign sign.OPEN_BRACKET ∷ expr_tokens size) (Sign sign.CLOSE_BRACKET ∷ []) g in
-      let r = parted (type_tokens elem) (Sign sign.OPEN_BRACKET ∷ expr_tokens size) q.front in
-      array_parts s h (read_elem elem e r.front) r.back q.back nb
+      let q = parted (type_tokens elem) (in_brackets (expr_tokens size)) g in
+      array_parts s h (read_elem elem e q.front) q.back nb
 
   pub array_again : Again (array_at p elem size)
-  array_again = again_as _ _ (by.printed_array p elem size) (creates _ _ (
-    new_word.form,
-    formed_append (type_tokens elem ++ Sign sign.OPEN_BRACKET ∷ expr_tokens size) _
-        (formed_append (type_tokens elem) _ (elem_formed elem e) (sign_formed sign.OPEN_BRACKET (omega arith), a.formed))
-        (sign_formed sign.CLOSE_BRACKET (omega arith), tt),
-  ) array_read)
+  array_again = again_as _ _ (by.printed_array p elem size) (creates _ _ (new_word.form, formed_append (type_tokens elem) _ (elem_formed elem e) (brackets_formed size a)) array_read)

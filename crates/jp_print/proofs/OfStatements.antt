@@ -16,7 +16,7 @@ use Rattle.jp_grammar.specs.Kinds.{IsSign, Tokens, place_of, nowhere}
 use Rattle.jp_grammar.specs.Expressions.{Expression, NoBracket}
 use Rattle.jp_grammar.specs.Statements.{OneType, is_assignment, IsBump, Change, Declared, Init, MaybeInit, MaybeExpr, MaybeChange, Test, Statement, Else, Block, assign, bump, run, declared, init_local, init_change, no_init, some_init, no_expr, some_expr, no_change, some_change, test, block, empty, local, local_value, when_true, while_true, for_each, break_off, continue_on, return_from, change, no_else, some_else, block_end, block_more}
 use Rattle.jp_print.specs.Expressions.{in_parens, maybe, type_tokens, expr_tokens, operand_tokens, printed_expr}
-use Rattle.jp_print.specs.Statements.{PrintedStmt, ended, unended, in_braces, all_tokens, block_tokens, initial_value, condition, else_branch, for_head, printed_stmt}
+use Rattle.jp_print.specs.Statements.{PrintedStmt, ended, unended, whole, in_braces, all_tokens, block_tokens, initial_value, condition, else_branch, for_init, for_test, for_change, printed_stmt}
 use Rattle.jp_print.specs.Places.{unplaced, unplaced_stmt}
 use Rattle.jp_print.specs.ReadsBack.{HasForm}
 use Rattle.jp_print.proofs.Forms.{Formed, FormedTokens, formed_append, Nameable, nameable, is_name, is_sign, sign_formed, sign_form}
@@ -201,8 +201,8 @@ StatementOf short xs t ys = Statement xs t short ys
 
 -- Printed so, the statement reads back.
 pub record PrintedAs (p : PrintedStmt) (t : Stmt) (short : Bool) : Type 0 where
-  pub formed : Formed p.tokens
-  pub read : (xs ys : Tokens) → Goes p.tokens xs ys → Reading (StatementOf short) unplaced_stmt xs t ys
+  pub formed : Formed (whole p)
+  pub read : (xs ys : Tokens) → Goes (whole p) xs ys → Reading (StatementOf short) unplaced_stmt xs t ys
 
 -- the statement reads back
 abbrev pub AgainAs : Stmt → Bool → Type 0
@@ -228,12 +228,12 @@ stmts_tokens ts = all_tokens (map printed_stmt ts)
 
 pub stmts_formed : (ts : List Stmt) → AllAgain ts → Formed (stmts_tokens ts)
 stmts_formed [] a = tt
-stmts_formed (t ∷ ts) a = formed_append (printed_stmt t).tokens _ a.0.as'.formed (stmts_formed ts a.1)
+stmts_formed (t ∷ ts) a = formed_append (whole (printed_stmt t)) _ a.0.as'.formed (stmts_formed ts a.1)
 
 pub read_block : (ts begun : List Stmt) → AllAgain ts → {xs ms ys : Tokens} → Goes (stmts_tokens ts) xs ms → Goes (Sign sign.CLOSE_BRACE ∷ []) ms ys → Reading (Block begun) (map unplaced_stmt) xs (begun ++ ts) ys
 read_block [] begun a done (next {s = p} h done) = record { tree = begun; reads = block_end (is_sign _ p h); same = all_pushed unplaced_stmt begun }
 read_block (t ∷ ts) begun a g h =
-    let p = parted (printed_stmt t).tokens (stmts_tokens ts) g in
+    let p = parted (whole (printed_stmt t)) (stmts_tokens ts) g in
     let r = a.0.as'.read _ _ p.front in
     let m = read_block ts (begun ++ r.tree ∷ []) a.1 p.back h in
     record { tree = m.tree; reads = block_more r.reads m.reads; same = m.same ∙ pushed unplaced_stmt begun r.tree t ts r.same }
@@ -334,10 +334,10 @@ module _ (p : Place) (e : Expr) (ae : expr.Again e) where
   -- ---- `if`
 
   module _ (first : Stmt) where
-    if_read : (inner : Bool) → AgainAs first inner → (xs ys : Tokens) → Goes (Word (codes "if") ∷ condition e ++ (printed_stmt first).tokens ++ []) xs ys → Reading (StatementOf true) unplaced_stmt xs (if_at p e first None) ys
+    if_read : (inner : Bool) → AgainAs first inner → (xs ys : Tokens) → Goes (Word (codes "if") ∷ condition e ++ whole (printed_stmt first) ++ []) xs ys → Reading (StatementOf true) unplaced_stmt xs (if_at p e first None) ys
     if_read inner a xs ys (next {s = s} h g) =
-        let o = parted (condition e ++ (printed_stmt first).tokens) [] g in
-        let q = parted (condition e) (printed_stmt first).tokens o.front in
+        let o = parted (condition e ++ whole (printed_stmt first)) [] g in
+        let q = parted (condition e) (whole (printed_stmt first)) o.front in
         let x = read_condition e ae q.front in
         let y = a.read _ _ q.back in
         nothing_behind s h x.tree x.same x.reads y o.back where
@@ -351,12 +351,12 @@ module _ (p : Place) (e : Expr) (ae : expr.Again e) where
 
     pub if_again : (inner : Bool) → AgainAs first inner → AgainAs (if_at p e first None) true
     if_again inner a = again_as _ _ _ (by.printed_if p e first None) (record {
-      formed = (if_word.form, formed_append (condition e ++ (printed_stmt first).tokens) [] (formed_append (condition e) _ (condition_formed e ae) a.formed) tt);
+      formed = (if_word.form, formed_append (condition e ++ whole (printed_stmt first)) [] (formed_append (condition e) _ (condition_formed e ae) a.formed) tt);
       read = if_read inner a;
     })
 
     module _ (second : Stmt) (short : Bool) (a : AgainAs first false) (b : AgainAs second short) where
-      else_parts : {xs ms ns zs : Tokens} (s : Token) → s.lexeme ≡ Word (codes "if") → Reading Test unplaced xs e ms → Reading (StatementOf false) unplaced_stmt ms first ns → Goes (Word (codes "else") ∷ (printed_stmt second).tokens) ns zs →
+      else_parts : {xs ms ns zs : Tokens} (s : Token) → s.lexeme ≡ Word (codes "if") → Reading Test unplaced xs e ms → Reading (StatementOf false) unplaced_stmt ms first ns → Goes (Word (codes "else") ∷ whole (printed_stmt second)) ns zs →
           Reading (StatementOf short) unplaced_stmt (s ∷ xs) (if_at p e first (Some second)) zs
       else_parts s h x y (next {s = l} i g) =
           let z = b.read _ _ g in
@@ -367,24 +367,24 @@ module _ (p : Place) (e : Expr) (ae : expr.Again e) where
                 ∙ ap (λ u. if_at nowhere (unplaced e) (unplaced_stmt first) (Some u)) z.same ∙ sym (by.unplaced_if p e first (Some second));
           }
 
-      else_read : (xs ys : Tokens) → Goes (Word (codes "if") ∷ condition e ++ (printed_stmt first).tokens ++ Word (codes "else") ∷ (printed_stmt second).tokens) xs ys → Reading (StatementOf short) unplaced_stmt xs (if_at p e first (Some second)) ys
+      else_read : (xs ys : Tokens) → Goes (Word (codes "if") ∷ condition e ++ whole (printed_stmt first) ++ Word (codes "else") ∷ whole (printed_stmt second)) xs ys → Reading (StatementOf short) unplaced_stmt xs (if_at p e first (Some second)) ys
       else_read xs ys (next {s = s} h g) =
-          let o = parted (condition e ++ (printed_stmt first).tokens) (Word (codes "else") ∷ (printed_stmt second).tokens) g in
-          let q = parted (condition e) (printed_stmt first).tokens o.front in
+          let o = parted (condition e ++ whole (printed_stmt first)) (Word (codes "else") ∷ whole (printed_stmt second)) g in
+          let q = parted (condition e) (whole (printed_stmt first)) o.front in
           else_parts s h (read_condition e ae q.front) (a.read _ _ q.back) o.back
 
       pub else_again : AgainAs (if_at p e first (Some second)) short
       else_again = again_as _ _ _ (by.printed_if p e first (Some second)) (record {
-        formed = (if_word.form, formed_append (condition e ++ (printed_stmt first).tokens) _ (formed_append (condition e) _ (condition_formed e ae) a.formed) (else_word.form, b.formed));
+        formed = (if_word.form, formed_append (condition e ++ whole (printed_stmt first)) _ (formed_append (condition e) _ (condition_formed e ae) a.formed) (else_word.form, b.formed));
         read = else_read;
       })
 
   -- ---- `while`
 
   module _ (body : Stmt) (short : Bool) (a : AgainAs body short) where
-    while_read : (xs ys : Tokens) → Goes (Word (codes "while") ∷ condition e ++ (printed_stmt body).tokens) xs ys → Reading (StatementOf short) unplaced_stmt xs (while_at p e body) ys
+    while_read : (xs ys : Tokens) → Goes (Word (codes "while") ∷ condition e ++ whole (printed_stmt body)) xs ys → Reading (StatementOf short) unplaced_stmt xs (while_at p e body) ys
     while_read xs ys (next {s = s} h g) =
-        let q = parted (condition e) (printed_stmt body).tokens g in
+        let q = parted (condition e) (whole (printed_stmt body)) g in
         let x = read_condition e ae q.front in
         let y = a.read _ _ q.back in
         record {
@@ -398,24 +398,31 @@ module _ (p : Place) (e : Expr) (ae : expr.Again e) where
 
 -- ---- `for`
 
--- the tokens in the parentheses of a `for`
-abbrev for_parts : Option Stmt → Option Expr → Option Stmt → List Lexeme
-for_parts i e c = inner_tokens i ++ Sign sign.SEMICOLON ∷ maybe expr_tokens e ++ Sign sign.SEMICOLON ∷ inner_tokens c
-
 module _ (p : Place) (i : Option Stmt) (e : Option Expr) (c : Option Stmt) (ai : InnerIf Init i) (ae : ExprIf e) (ac : InnerIf Change c) (body : Stmt) (short : Bool) (a : AgainAs body short) where
-  head_formed : Formed (for_head (option_map printed_stmt i) e (option_map printed_stmt c))
-  head_formed = parens_formed (for_parts i e c)
-      (formed_append (inner_tokens i ++ Sign sign.SEMICOLON ∷ maybe expr_tokens e) _
-      (formed_append (inner_tokens i) _ (inner_formed Init i ai) (sign_formed sign.SEMICOLON (omega arith), value_formed_if e ae))
-      (sign_formed sign.SEMICOLON (omega arith), inner_formed Change c ac))
+  abbrev first_part : List Lexeme
+  first_part = for_init (option_map printed_stmt i)
 
-  loop_parts : {x0 x1 x2 x3 x4 ys : Tokens} (s o : Token) → s.lexeme ≡ Word (codes "for") → o.lexeme ≡ Sign sign.OPEN_PAREN →
-      Goes (inner_tokens i) x0 x1 → Goes (Sign sign.SEMICOLON ∷ maybe expr_tokens e) x1 x2 → Goes (Sign sign.SEMICOLON ∷ inner_tokens c) x2 x3 → Goes (Sign sign.CLOSE_PAREN ∷ []) x3 x4 → Goes (printed_stmt body).tokens x4 ys →
-      Reading (StatementOf short) unplaced_stmt (s ∷ o ∷ x0) (for_at p i e c body) ys
-  loop_parts s o h j gi (next {s = m} k ge) (next {s = n} l gc) gp gb =
+  abbrev last_part : List Lexeme
+  last_part = for_change (option_map printed_stmt c)
+
+  init_formed : Formed first_part
+  init_formed = (for_word.form, (sign_formed sign.OPEN_PAREN (omega arith), inner_formed Init i ai))
+
+  test_formed : Formed (for_test e)
+  test_formed = (sign_formed sign.SEMICOLON (omega arith), value_formed_if e ae)
+
+  change_formed : Formed last_part
+  change_formed = (sign_formed sign.SEMICOLON (omega arith), formed_append (inner_tokens c) _ (inner_formed Change c ac) (sign_formed sign.CLOSE_PAREN (omega arith), tt))
+
+  change_read : {xs ys : Tokens} → Goes (inner_tokens c ++ Sign sign.CLOSE_PAREN ∷ []) xs ys → Reading MaybeChange (option_map unplaced_stmt) xs c ys
+  change_read g = let q = parted (inner_tokens c) (Sign sign.CLOSE_PAREN ∷ []) g in read_change c ac q.front q.back
+
+  loop_parts : {x0 x1 x2 x3 ys : Tokens} → Goes first_part x0 x1 → Goes (for_test e) x1 x2 → Goes last_part x2 x3 → Goes (whole (printed_stmt body)) x3 ys →
+      Reading (StatementOf short) unplaced_stmt x0 (for_at p i e c body) ys
+  loop_parts (next {s = s} h (next {s = o} j gi)) (next {s = m} k ge) (next {s = n} l gc) gb =
       let x = read_init i ai gi (next {s = m} k done) in
       let y = read_maybe e ae ge (next {s = n} l done) in
-      let z = read_change c ac gc gp in
+      let z = change_read gc in
       let w = a.read _ _ gb in
       record {
         tree = for_at s.place x.tree y.tree z.tree w.tree;
@@ -428,17 +435,16 @@ module _ (p : Place) (i : Option Stmt) (e : Option Expr) (c : Option Stmt) (ai :
             ∙ sym (by.unplaced_for p i e c body);
       }
 
-  loop_read : (xs ys : Tokens) → Goes (Word (codes "for") ∷ for_head (option_map printed_stmt i) e (option_map printed_stmt c) ++ (printed_stmt body).tokens) xs ys → Reading (StatementOf short) unplaced_stmt xs (for_at p i e c body) ys
-  loop_read xs ys (next {s = s} h (next {s = o} j g)) =
-      let q1 = parted (for_parts i e c ++ Sign sign.CLOSE_PAREN ∷ []) (printed_stmt body).tokens g in
-      let q2 = parted (for_parts i e c) (Sign sign.CLOSE_PAREN ∷ []) q1.front in
-      let q3 = parted (inner_tokens i ++ Sign sign.SEMICOLON ∷ maybe expr_tokens e) (Sign sign.SEMICOLON ∷ inner_tokens c) q2.front in
-      let q4 = parted (inner_tokens i) (Sign sign.SEMICOLON ∷ maybe expr_tokens e) q3.front in
-      loop_parts s o h j q4.front q4.back q3.back q2.back q1.back
+  loop_read : (xs ys : Tokens) → Goes (first_part ++ for_test e ++ last_part ++ whole (printed_stmt body)) xs ys → Reading (StatementOf short) unplaced_stmt xs (for_at p i e c body) ys
+  loop_read xs ys g =
+      let q1 = parted (first_part ++ for_test e ++ last_part) (whole (printed_stmt body)) g in
+      let q2 = parted (first_part ++ for_test e) last_part q1.front in
+      let q3 = parted first_part (for_test e) q2.front in
+      loop_parts q3.front q3.back q2.back q1.back
 
   pub for_again : AgainAs (for_at p i e c body) short
   for_again = again_as _ _ _ (by.printed_for p i e c body) (record {
-    formed = (for_word.form, formed_append (for_head (option_map printed_stmt i) e (option_map printed_stmt c)) _ head_formed a.formed);
+    formed = formed_append (first_part ++ for_test e ++ last_part) _ (formed_append (first_part ++ for_test e) _ (formed_append first_part _ init_formed test_formed) change_formed) a.formed;
     read = loop_read;
   })
 

@@ -1,14 +1,17 @@
 -- Printed units read back.
-use Rattle.std.proofs.Common.{◌≡◌, ℕ, ◌≤◌, List, sym, ap, ◌∙◌, subst, arith}
+use Rattle.std.proofs.Common.{◌≡◌, ℕ, ◌≤◌, List, refl, sym, ap, ◌∙◌, subst, inl, inr, arith}
+use Rattle.std.specs.List.{AllByRecursion}
+use Rattle.jp_ast.specs.declared.token.Place.{Place}
+use Rattle.jp_ast.specs.declared.token.Token.{Token}
 use Rattle.jp_ast.specs.declared.token.Lexeme.{Lexeme}
 use Rattle.jp_ast.specs.declared.decl.SourceUnit.{SourceUnit}
-use Rattle.jp_lexical.specs.Lexed.{Lexed}
+use Rattle.jp_lexical.specs.Lexed.{Lexed, LexedFrom, end, gap, token}
 use Rattle.jp_lexical.specs.Places.{first_place}
 use Rattle.jp_grammar.specs.Faults.{deepest_of_unit}
 use Rattle.jp_print.specs.Layout.{laid_out}
 use Rattle.jp_print.specs.Declarations.{unit_tokens, printed_unit}
 use Rattle.jp_print.specs.Places.{unplaced_unit}
-use Rattle.jp_print.specs.ReadsBack.{IsOfGrammar, ReadsBack, PrintedReadsBack}
+use Rattle.jp_print.specs.ReadsBack.{IsFormed, IsOfGrammar, ReadsBack, PrintedReadsBack, ReadReadsBack, PlacesAreNotPrinted}
 use Rattle.jp_print.proofs.OfUnits.{unit_of, unit_formed, unit_again}
 use Rattle.jp_print.proofs.Lexing.{lexed_as}
 use Rattle.jp_print.proofs.Blind.{unit_blind, unit_deep}
@@ -32,3 +35,14 @@ reads_back unit g =
       parsed = record { whole = r.reads; small = omega (arith, depth, g.parsed.small) };
       same = r.same ∙ g.same;
     }
+
+formed_from : {place : Place} {text : List ℕ} {tokens : List Token} → LexedFrom place text tokens → AllByRecursion IsFormed tokens
+formed_from end = (inl refl, tt)
+formed_from (gap e g r) = formed_from r
+formed_from (token {bytes = bytes} e t r) = (inr (record { bytes = bytes; spells = t.spells }), formed_from r)
+
+pub read_reads_back : ReadReadsBack
+read_reads_back text tokens unit lexed parsed = reads_back unit (record { tokens = tokens; other = unit; formed = formed_from lexed; parsed = parsed; same = refl })
+
+pub printed_alike : PlacesAreNotPrinted
+printed_alike unit other same = ap laid_out (same_tokens unit other same)

@@ -1,5 +1,5 @@
 -- The tokens that members, declarations and units are printed as, and the text of a unit.
-use Rattle.std.specs.Prelude.{ℕ, Bool, true, false, if◌then◌else◌, List, [], ◌∷◌, ◌++◌, map, flat_map, Option, Some, None, codes}
+use Rattle.std.specs.Prelude.{ℕ, Bool, not, if◌then◌else◌, List, [], ◌∷◌, ◌++◌, map, flat_map, Option, Some, None, codes}
 use Rattle.jp_pred.specs.declared.ty.Ty.{Ty}
 use Rattle.jp_ast.specs.declared.token.Lexeme.{Lexeme}
 use Rattle.jp_ast.specs.declared.token.Lexeme.TheVariants.{Word, Sign}
@@ -55,8 +55,8 @@ super_call args = Word (codes "super") ∷ arguments (map printed_expr args) ++ 
 abbrev pub part_tokens : Bool → List ℕ → List Param → MemberPart → List Lexeme
 part_tokens in_interface name params (part.Field ty static) = word_if static (codes "static") ++ type_tokens ty ++ Word name ∷ Sign sign.SEMICOLON ∷ []
 part_tokens in_interface name params (part.Static result block) = Word (codes "static") ∷ signature result name params ++ block_tokens (map printed_stmt block)
-part_tokens false name params (part.Abstract result) = Word (codes "abstract") ∷ signature result name params ++ Sign sign.SEMICOLON ∷ []
-part_tokens true name params (part.Abstract result) = signature result name params ++ Sign sign.SEMICOLON ∷ []
+part_tokens in_interface name params (part.Abstract result) =
+    word_if (not in_interface) (codes "abstract") ++ signature result name params ++ Sign sign.SEMICOLON ∷ []
 part_tokens in_interface name params (part.Body result guard block) = signature result name params ++ maybe when_guard guard ++ block_tokens (map printed_stmt block)
 part_tokens in_interface name params (part.Constructor args block) =
     named_params name params ++ in_braces (maybe super_call args ++ all_tokens (map printed_stmt block))

@@ -1,5 +1,5 @@
 -- The tokens that an expression is printed as, and where parentheses stand.
-use Rattle.std.specs.Prelude.{ℕ, Bool, true, false, not, ◌&&◌, if◌then◌else◌, List, [], ◌∷◌, ◌++◌, map, flat_map, Option, Some, None, codes}
+use Rattle.std.specs.Prelude.{ℕ, zero, suc, Bool, true, false, not, ◌&&◌, if◌then◌else◌, List, [], ◌∷◌, ◌++◌, map, flat_map, Option, Some, None, codes}
 use Rattle.jp_pred.specs.declared.ty.Ty.{Ty}
 use Rattle.jp_pred.specs.declared.ty.Ty.TheVariants as ty
 use Rattle.jp_ast.specs.declared.token.Lexeme.{Lexeme}
@@ -13,6 +13,10 @@ use Rattle.jp_ast.specs.declared.sign.TheConstants as sign
 abbrev pub in_parens : List Lexeme → List Lexeme
 in_parens tokens = Sign sign.OPEN_PAREN ∷ tokens ++ Sign sign.CLOSE_PAREN ∷ []
 
+-- tokens in brackets
+abbrev pub in_brackets : List Lexeme → List Lexeme
+in_brackets tokens = Sign sign.OPEN_BRACKET ∷ tokens ++ Sign sign.CLOSE_BRACKET ∷ []
+
 -- a further part of a list
 abbrev pub behind_comma : List Lexeme → List Lexeme
 behind_comma part = Sign sign.COMMA ∷ part
@@ -21,6 +25,11 @@ behind_comma part = Sign sign.COMMA ∷ part
 abbrev pub commas : List (List Lexeme) → List Lexeme
 commas [] = []
 commas (first ∷ others) = first ++ flat_map behind_comma others
+
+-- what stands in front of the part at this place
+abbrev pub comma_at : ℕ → List Lexeme
+comma_at zero = []
+comma_at (suc place) = Sign sign.COMMA ∷ []
 
 -- the tokens of what may be left out
 abbrev pub maybe : {T : Type 0} → (T → List Lexeme) → Option T → List Lexeme
@@ -70,13 +79,21 @@ operand part = if part.alone then part.tokens else in_parens part.tokens
 abbrev pub array : Printed → List Lexeme
 array part = if part.alone && not part.creates then part.tokens else in_parens part.tokens
 
--- arguments in parentheses, with a comma between two
+-- expressions with a comma between two
+abbrev pub listed : List Printed → List Lexeme
+listed args = commas (map (λ arg. arg.tokens) args)
+
+-- arguments in parentheses
 abbrev pub arguments : List Printed → List Lexeme
-arguments args = in_parens (commas (map (λ arg. arg.tokens) args))
+arguments args = in_parens (listed args)
 
 -- `.` and a name
 abbrev pub dot_name : List ℕ → List Lexeme
 dot_name name = Sign sign.DOT ∷ Word name ∷ []
+
+-- `instanceof` and the name of a class
+abbrev pub instance_of : List ℕ → List Lexeme
+instance_of class = Word (codes "instanceof") ∷ Word class ∷ []
 
 -- an object and the `.` behind it
 abbrev pub receiver : Printed → List Lexeme
@@ -95,14 +112,13 @@ expr_step (expr_kind.Binary sign left right) = loose (operand left ++ Sign sign 
 expr_step (expr_kind.Cond test first second) =
     loose (operand test ++ Sign sign.QUESTION ∷ operand first ++ Sign sign.COLON ∷ operand second)
 expr_step (expr_kind.Cast class value) = loose (in_parens (Word class ∷ []) ++ operand value)
-expr_step (expr_kind.InstanceOf value class) = loose (operand value ++ Word (codes "instanceof") ∷ Word class ∷ [])
+expr_step (expr_kind.InstanceOf value class) = loose (operand value ++ instance_of class)
 expr_step (expr_kind.Field object name) = primary (operand object ++ dot_name name)
-expr_step (expr_kind.Index object index) = primary (array object ++ Sign sign.OPEN_BRACKET ∷ index.tokens ++ Sign sign.CLOSE_BRACKET ∷ [])
+expr_step (expr_kind.Index object index) = primary (array object ++ in_brackets index.tokens)
 expr_step (expr_kind.Call object name args) = primary (maybe receiver object ++ Word name ∷ arguments args)
 expr_step (expr_kind.SuperCall name args) = primary (Word (codes "super") ∷ dot_name name ++ arguments args)
 expr_step (expr_kind.New class args) = primary (Word (codes "new") ∷ Word class ∷ arguments args)
-expr_step (expr_kind.NewArray elem size) =
-    created (Word (codes "new") ∷ type_tokens elem ++ Sign sign.OPEN_BRACKET ∷ size.tokens ++ Sign sign.CLOSE_BRACKET ∷ [])
+expr_step (expr_kind.NewArray elem size) = created (Word (codes "new") ∷ type_tokens elem ++ in_brackets size.tokens)
 
 -- an expression as it is printed
 unfoldable pub printed_expr : Expr → Printed

@@ -1,5 +1,5 @@
 -- The tokens that a guard is printed as, and where parentheses stand.
-use Rattle.std.specs.Prelude.{ℕ, Bool, true, false, if◌then◌else◌, List, [], ◌∷◌, ◌++◌, flat_map, Option, Some, None, codes}
+use Rattle.std.specs.Prelude.{ℕ, zero, suc, Bool, true, false, if◌then◌else◌, List, [], ◌∷◌, ◌++◌, flat_map, Option, Some, None, codes}
 use Rattle.jp_ast.specs.declared.token.Lexeme.{Lexeme}
 use Rattle.jp_ast.specs.declared.token.Lexeme.TheVariants.{Word, Number, Sign}
 use Rattle.jp_ast.specs.declared.guard.PathText.{PathText}
@@ -32,6 +32,11 @@ first_summand a = if a.negative then Sign sign.MINUS ∷ term_tokens a.factor a.
 abbrev pub next_summand : Summand → List Lexeme
 next_summand a = Sign (if a.negative then sign.MINUS else sign.PLUS) ∷ term_tokens a.factor a.path
 
+-- the summand at this place of a sum
+abbrev pub summand_at : ℕ → Summand → List Lexeme
+summand_at zero a = first_summand a
+summand_at (suc place) a = next_summand a
+
 -- a sum
 abbrev pub sum_tokens : List Summand → List Lexeme
 sum_tokens [] = []
@@ -40,6 +45,14 @@ sum_tokens (first ∷ others) = first_summand first ++ flat_map next_summand oth
 -- `as` and a name
 abbrev pub as_name : List ℕ → List Lexeme
 as_name name = Word (codes "as") ∷ Word name ∷ []
+
+-- `@`, the name of a class, and `as` and a name where there is one
+abbrev pub class_test : List ℕ → Option (List ℕ) → List Lexeme
+class_test class alias = Sign sign.AT ∷ Word class ∷ maybe as_name alias
+
+-- `==` or `!=`, and `null`
+abbrev pub null_test : Bool → List Lexeme
+null_test equal = Sign (if equal then sign.EQUAL else sign.NOT_EQUAL) ∷ Word (codes "null") ∷ []
 
 -- a guard as it is printed: its tokens, and whether it is an atom
 pub record PrintedGuard : Type 0 where
@@ -62,10 +75,9 @@ guard_step (guard_kind.Truth value) = atomic (truth_word value ∷ [])
 guard_step (guard_kind.Not right) = composed (Sign sign.NOT ∷ guard_part right)
 guard_step (guard_kind.And left right) = composed (guard_part left ++ Sign sign.AND ∷ guard_part right)
 guard_step (guard_kind.Or left right) = composed (guard_part left ++ Sign sign.OR ∷ guard_part right)
-guard_step (guard_kind.Is path class alias) = atomic (path_tokens path ++ Sign sign.AT ∷ Word class ∷ maybe as_name alias)
+guard_step (guard_kind.Is path class alias) = atomic (path_tokens path ++ class_test class alias)
 guard_step (guard_kind.Alias path name) = atomic (path_tokens path ++ as_name name)
-guard_step (guard_kind.NullTest path equal) =
-    atomic (path_tokens path ++ Sign (if equal then sign.EQUAL else sign.NOT_EQUAL) ∷ Word (codes "null") ∷ [])
+guard_step (guard_kind.NullTest path equal) = atomic (path_tokens path ++ null_test equal)
 guard_step (guard_kind.Flag path) = atomic (path_tokens path)
 guard_step (guard_kind.Compare left sign right) = atomic (sum_tokens left ++ Sign sign ∷ sum_tokens right)
 

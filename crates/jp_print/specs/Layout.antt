@@ -1,5 +1,6 @@
 -- How tokens are laid out as a text.
 use Rattle.std.specs.Prelude.{ℕ, Bool, ◌==◌, ◌||◌, false, if◌then◌else◌, List, [], ◌∷◌, ◌++◌, codes, decimal, flat_map, slice_get, unwrap_or}
+use Rattle.std.specs.Borrow.{Bor}
 use Rattle.std.specs.Fmt.{digits}
 use Rattle.jp_ast.specs.declared.token.Lexeme.{Lexeme}
 use Rattle.jp_ast.specs.declared.token.Lexeme.TheVariants.{Word, Number, Text, Sign, End}
@@ -7,9 +8,17 @@ use Rattle.jp_ast.specs.declared.sign.TheConstants as sign
 use Rattle.jp_lexical.specs.Tokens.{quoted}
 use Rattle.jp_lexical.specs.Signs.{signs}
 
+-- the bytes that a row of a table lends
+abbrev pub row_text : Bor (List ℕ) → List ℕ
+row_text row = row.now
+
+-- the text at this place, or none behind the end
+abbrev pub text_at : List (List ℕ) → ℕ → List ℕ
+text_at table place = unwrap_or (slice_get table place) []
+
 -- the bytes of the sign with this number
 abbrev pub sign_text : ℕ → List ℕ
-sign_text number = unwrap_or (slice_get signs number) []
+sign_text number = text_at signs number
 
 -- `0x` and lower-case digits, or decimal digits; neither with leading zeros
 abbrev pub number_text : ℕ → Bool → List ℕ

@@ -39,3 +39,11 @@ pub record ReadsBack (text : List ℕ) (unit : SourceUnit) : Type 0 where
 -- each unit that the grammar gives, places aside, is printed as a text that reads back as it
 abbrev pub PrintedReadsBack : Type 0
 PrintedReadsBack = (unit : SourceUnit) → IsOfGrammar unit → ReadsBack (printed_unit unit) unit
+
+-- each unit that is read from a text is printed as a text that reads back as it
+abbrev pub ReadReadsBack : Type 0
+ReadReadsBack = (text : List ℕ) (tokens : List Token) (unit : SourceUnit) → Lexed text tokens → Parsed tokens unit → ReadsBack (printed_unit unit) unit
+
+-- units that are the same, places aside, are printed alike
+abbrev pub PlacesAreNotPrinted : Type 0
+PlacesAreNotPrinted = (unit other : SourceUnit) → unplaced_unit unit ≡ unplaced_unit other → printed_unit unit ≡ printed_unit other

@@ -9,18 +9,22 @@ use Rattle.jp_ast.specs.declared.stmt.StmtKind.TheOpen as stmt_kind
 use Rattle.jp_ast.specs.declared.sign.TheConstants as sign
 use Rattle.jp_print.specs.Expressions.{in_parens, maybe, type_tokens, expr_tokens, operand_tokens}
 
--- a statement as it is printed: its tokens, and those in front of the `;` with which it may end
+-- a statement as it is printed: its tokens in front of the `;` with which it may end, and whether it ends with one
 pub record PrintedStmt : Type 0 where
-  pub tokens : List Lexeme
   pub inner : List Lexeme
+  pub is_ended : Bool
 
 -- what ends with a `;`
 abbrev pub ended : List Lexeme → PrintedStmt
-ended tokens = record { tokens = tokens ++ Sign sign.SEMICOLON ∷ []; inner = tokens }
+ended tokens = record { inner = tokens; is_ended = true }
 
 -- what ends with its last part
 abbrev pub unended : List Lexeme → PrintedStmt
-unended tokens = record { tokens = tokens; inner = tokens }
+unended tokens = record { inner = tokens; is_ended = false }
+
+-- the tokens of the statement
+abbrev pub whole : PrintedStmt → List Lexeme
+whole s = if s.is_ended then s.inner ++ Sign sign.SEMICOLON ∷ [] else s.inner
 
 -- tokens in braces
 abbrev pub in_braces : List Lexeme → List Lexeme
@@ -28,7 +32,7 @@ in_braces tokens = Sign sign.OPEN_BRACE ∷ tokens ++ Sign sign.CLOSE_BRACE ∷ 
 
 -- statements one behind the other
 abbrev pub all_tokens : List PrintedStmt → List Lexeme
-all_tokens block = flat_map (λ s. s.tokens) block
+all_tokens block = flat_map whole block
 
 -- statements in braces
 abbrev pub block_tokens : List PrintedStmt → List Lexeme
@@ -44,26 +48,37 @@ condition test = in_parens (expr_tokens test)
 
 -- `else` and the branch behind it
 abbrev pub else_branch : PrintedStmt → List Lexeme
-else_branch second = Word (codes "else") ∷ second.tokens
+else_branch second = Word (codes "else") ∷ whole second
 
--- the three parts of a `for` in parentheses, with a `;` behind the first and the second
-abbrev pub for_head : Option PrintedStmt → Option Expr → Option PrintedStmt → List Lexeme
-for_head init test change =
-    in_parens (maybe (λ i. i.inner) init ++ Sign sign.SEMICOLON ∷ maybe expr_tokens test ++ Sign sign.SEMICOLON ∷ maybe (λ c. c.inner) change)
+-- `for`, `(`, and what is done first
+abbrev pub for_init : Option PrintedStmt → List Lexeme
+for_init init = Word (codes "for") ∷ Sign sign.OPEN_PAREN ∷ maybe (λ i. i.inner) init
+
+-- `;`, and the condition of a `for`
+abbrev pub for_test : Option Expr → List Lexeme
+for_test test = Sign sign.SEMICOLON ∷ maybe expr_tokens test
+
+-- `;`, what is done behind each turn, and `)`
+abbrev pub for_change : Option PrintedStmt → List Lexeme
+for_change change = Sign sign.SEMICOLON ∷ maybe (λ c. c.inner) change ++ Sign sign.CLOSE_PAREN ∷ []
+
+-- `++` or `--`
+abbrev pub bump_sign : Bool → Lexeme
+bump_sign up = Sign (if up then sign.INCREMENT else sign.DECREMENT)
 
 -- each form of a statement, over what its statements are printed as
 abbrev pub stmt_step : StmtKind-F PrintedStmt PrintedStmt → PrintedStmt
 stmt_step (stmt_kind.Block block) = unended (block_tokens block)
 stmt_step stmt_kind.Empty = ended []
 stmt_step (stmt_kind.Local ty name value) = ended (type_tokens ty ++ Word name ∷ maybe initial_value value)
-stmt_step (stmt_kind.If test first second) = unended (Word (codes "if") ∷ condition test ++ first.tokens ++ maybe else_branch second)
-stmt_step (stmt_kind.While test body) = unended (Word (codes "while") ∷ condition test ++ body.tokens)
-stmt_step (stmt_kind.For init test change body) = unended (Word (codes "for") ∷ for_head init test change ++ body.tokens)
+stmt_step (stmt_kind.If test first second) = unended (Word (codes "if") ∷ condition test ++ whole first ++ maybe else_branch second)
+stmt_step (stmt_kind.While test body) = unended (Word (codes "while") ∷ condition test ++ whole body)
+stmt_step (stmt_kind.For init test change body) = unended (for_init init ++ for_test test ++ for_change change ++ whole body)
 stmt_step stmt_kind.Break = ended (Word (codes "break") ∷ [])
 stmt_step stmt_kind.Continue = ended (Word (codes "continue") ∷ [])
 stmt_step (stmt_kind.Return value) = ended (Word (codes "return") ∷ maybe expr_tokens value)
 stmt_step (stmt_kind.Assign left sign right) = ended (operand_tokens left ++ Sign sign ∷ expr_tokens right)
-stmt_step (stmt_kind.Bump left up) = ended (operand_tokens left ++ Sign (if up then sign.INCREMENT else sign.DECREMENT) ∷ [])
+stmt_step (stmt_kind.Bump left up) = ended (operand_tokens left ++ bump_sign up ∷ [])
 stmt_step (stmt_kind.Run value) = ended (operand_tokens value)
 
 -- a statement as it is printed
