@@ -197,7 +197,7 @@ module _ (p : Program) (valid : IsUniverse (hier_in p.classes)) (free : HasNoGua
       test_is u shape i x e ∙ entry_above u y.head.name x.head.name passes (entry_of this shape.refs) (sym (test_is u shape 0 y f) ∙ true_there)
 
   -- and so no other beats it
-  first_selected : (shape : Shape) (i : ℕ) → Selected (hier_in p.classes) (parameters_of chain) (hier_in p.classes) shape (map body_of chain) i → i ≡ 0
+  pub first_selected : (shape : Shape) (i : ℕ) → Selected (hier_in p.classes) (parameters_of chain) (hier_in p.classes) shape (map body_of chain) i → i ≡ 0
   first_selected shape i s = elim (equal_or_other i 0) [
     | inl e ↦ e
     | inr other ↦ absurd (by_body (slice_get chain i) refl (sym (slice_get-map body_of chain i) ∙ s.applies.at) other)

@@ -51,7 +51,7 @@ lexed_wordly (token {bytes = spelled} {lexeme = x} e t l) = one_more (λ bytes w
 
 -- PARAMETERS
 
-behind_maybe : {kind : Kind} {b : Bool} {xs zs : Tokens} → Maybe kind xs b zs → AreWordly xs → AreWordly zs
+pub behind_maybe : {kind : Kind} {b : Bool} {xs zs : Tokens} → Maybe kind xs b zs → AreWordly xs → AreWordly zs
 behind_maybe absent w = w
 behind_maybe (present h) w = rest w
 
@@ -59,11 +59,11 @@ behind_more_names : {ns ms : List (List ℕ)} {xs zs : Tokens} → MoreNames ns 
 behind_more_names names_end w = w
 behind_more_names (names_more h i m) w = behind_more_names m (two w)
 
-behind_names : {kind : Kind} {ns : List (List ℕ)} {xs zs : Tokens} → MaybeNames kind xs ns zs → AreWordly xs → AreWordly zs
+pub behind_names : {kind : Kind} {ns : List (List ℕ)} {xs zs : Tokens} → MaybeNames kind xs ns zs → AreWordly xs → AreWordly zs
 behind_names no_names w = w
 behind_names (some_names h i m) w = behind_more_names m (two w)
 
-behind_super : {o : Option (List ℕ)} {xs zs : Tokens} → MaybeSuper xs o zs → AreWordly xs → AreWordly zs
+pub behind_super : {o : Option (List ℕ)} {xs zs : Tokens} → MaybeSuper xs o zs → AreWordly xs → AreWordly zs
 behind_super no_super w = w
 behind_super (some_super h i) w = two w
 
@@ -88,7 +88,7 @@ more_params_named : {ps qs : List Param} {xs zs : Tokens} → MoreParams ps xs q
 more_params_named (last_param h) w k = k
 more_params_named (next_param {p = p} {ps = ps} h g m) w k = more_params_named m (behind_param g (rest w)) (more_named ps p k (param_named g (rest w)))
 
-behind_params : {ps : List Param} {xs zs : Tokens} → Params xs ps zs → AreWordly xs → AreWordly zs
+pub behind_params : {ps : List Param} {xs zs : Tokens} → Params xs ps zs → AreWordly xs → AreWordly zs
 behind_params (no_params h i) w = two w
 behind_params (some_params h p m) w = behind_more_params m (behind_param p (rest w))
 
@@ -134,7 +134,7 @@ body_plain (abstract_method h r i p j) w = (params_named p (rest (behind_result 
 body_plain (method_body r h p g b) w = (params_named p (rest (behind_result r w)), result_named r w)
 body_plain (constructor h p i s b) w = (params_named p (rest w), refl)
 
-behind_member : {m : Member} {xs zs : Tokens} → OneMember xs m zs → AreWordly xs → AreWordly zs
+pub behind_member : {m : Member} {xs zs : Tokens} → OneMember xs m zs → AreWordly xs → AreWordly zs
 behind_member (default_member b) w = behind_body b w
 behind_member (public_member h b) w = behind_body b (rest w)
 behind_member (private_member h b) w = behind_body b (rest w)
@@ -160,7 +160,7 @@ members_plain : {ms ns : List Member} {xs zs : Tokens} → Members ms xs ns zs �
 members_plain (members_end h) w k = k
 members_plain (members_more {m = m} {ms = ms} g n) w k = members_plain n (behind_member g w) (one_plain ms m k (member_plain g w))
 
-behind_promise : {m : Member} {xs zs : Tokens} → Promise xs m zs → AreWordly xs → AreWordly zs
+pub behind_promise : {m : Member} {xs zs : Tokens} → Promise xs m zs → AreWordly xs → AreWordly zs
 behind_promise (promise a b r h p i) w = rest (behind_params p (rest (behind_result r (behind_maybe b (behind_maybe a w)))))
 
 promise_plain : {m : Member} {xs zs : Tokens} → Promise xs m zs → AreWordly xs → IsPlain m
@@ -208,12 +208,12 @@ decl_from d n h =
     and_so (not (same d.name object_name)) (list_all method_fits (head d).methods && list_all are_nameable (head d).constructors) (ap not (not_object d.name n))
     (and_so (list_all method_fits (head d).methods) (list_all are_nameable (head d).constructors) (all_methods d.members h) (defaults d.is_interface (filter_map as_constructor d.members) (all_makers d.members h)))
 
-behind_modifier : {a b : Bool} {xs zs : Tokens} → Modifier xs a b zs → AreWordly xs → AreWordly zs
+pub behind_modifier : {a b : Bool} {xs zs : Tokens} → Modifier xs a b zs → AreWordly xs → AreWordly zs
 behind_modifier no_modifier w = w
 behind_modifier (abstract_modifier h) w = rest w
 behind_modifier (final_modifier h) w = rest w
 
-behind_declaration : {d : Decl} {xs zs : Tokens} → Declaration xs d zs → AreWordly xs → AreWordly zs
+pub behind_declaration : {d : Decl} {xs zs : Tokens} → Declaration xs d zs → AreWordly xs → AreWordly zs
 behind_declaration (class_decl a m h i s n j g) w = behind_members g (rest (behind_names n (behind_super s (two (behind_modifier m (behind_maybe a w))))))
 behind_declaration (interface_decl a h i n j g) w = behind_promises g (rest (behind_names n (two (behind_maybe a w))))
 

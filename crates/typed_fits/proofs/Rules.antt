@@ -20,7 +20,7 @@ use Rattle.type_rules.specs.Units.{open_decl, member_visits, seats_of, decl_visi
 use Rattle.type_rules.proofs.Soundness.{or_false_left, or_false_right}
 
 -- no rule is broken at a node that is visited
-kept : (visits : List Visit) → AreSound visits → (r : Rule) → In r all_rules → (v : Visit) → In v visits → r.1 v.node ≡ false
+pub kept : (visits : List Visit) → AreSound visits → (r : Rule) → In r all_rules → (v : Visit) → In v visits → r.1 v.node ≡ false
 kept visits sound r i v j = elim (true_or_false (r.1 v.node)) [
   | inl t ↦ absurd (sound v.place r.0 (record { rule = r; is_rule = i; number_is = refl; visit = v; is_visited = j; place_is = refl; breaks = t }))
   | inr f ↦ f

@@ -58,7 +58,7 @@ no_classes : (heads : List Iface) (ds : List OpenDecl) (cs : List TypedClass) �
 no_classes heads [] cs e = none_is cs e
 no_classes heads (d ∷ ds) cs e = no_classes heads ds cs e
 
-all_made : (heads : List Iface) (ds : List Decl) (done cs : List TypedClass) → made_classes heads (Some done) (map open_decl ds) ≡ Some cs → (more : List TypedClass) × (cs ≡ done ++ more) × Made heads ds more
+pub all_made : (heads : List Iface) (ds : List Decl) (done cs : List TypedClass) → made_classes heads (Some done) (map open_decl ds) ≡ Some cs → (more : List TypedClass) × (cs ≡ done ++ more) × Made heads ds more
 all_made heads [] done cs e = ([], sym (some_is done cs e) ∙ sym (append-nil done), none)
 all_made heads (d ∷ ds) done cs e = by_class (made_class heads (open_decl d)) refl (λ c. all_made heads ds (done ++ c ∷ []) cs) e where
   by_class : (o : Option TypedClass) → made_class heads (open_decl d) ≡ o → ((c : TypedClass) → made_classes heads (Some (done ++ c ∷ [])) (map open_decl ds) ≡ Some cs → (more : List TypedClass) × (cs ≡ (done ++ c ∷ []) ++ more) × Made heads ds more) →
@@ -67,7 +67,7 @@ all_made heads (d ∷ ds) done cs e = by_class (made_class heads (open_decl d)) 
   by_class (Some c) f later e = let g = later c e in (c ∷ g.0, g.1 ∙ append_assoc done (c ∷ []) g.0, one f g.2)
 
 -- the head of a class is that of its declaration
-head_is : (heads : List Iface) (d : Decl) (c : TypedClass) → made_class heads (open_decl d) ≡ Some c → (c.head ≡ resolved_head heads (open_decl d)) × ((ms : List TypedMember) × (made_members (Some []) (seats_of heads (open_decl d)) ≡ Some ms) × (c.members ≡ with_default d ms))
+pub head_is : (heads : List Iface) (d : Decl) (c : TypedClass) → made_class heads (open_decl d) ≡ Some c → (c.head ≡ resolved_head heads (open_decl d)) × ((ms : List TypedMember) × (made_members (Some []) (seats_of heads (open_decl d)) ≡ Some ms) × (c.members ≡ with_default d ms))
 head_is heads d c e = by_members (made_members (Some []) (seats_of heads (open_decl d))) refl e where
   by_members : (o : Option (List TypedMember)) → made_members (Some []) (seats_of heads (open_decl d)) ≡ o →
       option_map (λ ms. let x : TypedClass = record { head = resolved_head heads (open_decl d); members = with_default d ms } in x) o ≡ Some c →
@@ -99,7 +99,7 @@ made_named heads (one {d} {ds} {c} {cs} f m) name h e = by_name (same d.name nam
       (k.0, ap (λ (x : Iface). cond (same x.name name) (Some c) (class_in cs name)) head_same ∙ ap (λ (b : Bool). cond b (Some c) (class_in cs name)) g ∙ k.1, k.2, k.3)
 
 -- each class is made of a declaration, and is the first of its name
-made_of : (heads : List Iface) (before : List Decl) {ds : List Decl} {cs : List TypedClass} → Made heads ds cs → AllKeep heads before ds → (c : TypedClass) → In c cs →
+pub made_of : (heads : List Iface) (before : List Decl) {ds : List Decl} {cs : List TypedClass} → Made heads ds cs → AllKeep heads before ds → (c : TypedClass) → In c cs →
     (d : Decl) × In d ds × (made_class heads (open_decl d) ≡ Some c) × (class_in cs c.head.name ≡ Some c) × ((e : Decl) → In e before → same e.name c.head.name ≡ false)
 made_of heads before none k c i = elim i [ ]
 made_of heads before (one {d} {ds} {c = x} {cs} f m) k c i = by_place (made_of heads (before ++ d ∷ []) m k.1 c) (split_in x c cs i) where
@@ -156,7 +156,7 @@ in_cons : {Y : Type 0} (o : Option Y) {y : Y} {ys : List Y} → In y ys → In y
 in_cons None i = i
 in_cons (Some w) i = there i
 
-in_filter_to : {X Y : Type 0} (f : X → Option Y) {x : X} {xs : List X} (y : Y) → In x xs → f x ≡ Some y → In y (filter_map f xs)
+pub in_filter_to : {X Y : Type 0} (f : X → Option Y) {x : X} {xs : List X} (y : Y) → In x xs → f x ≡ Some y → In y (filter_map f xs)
 in_filter_to {Y = Y} f y (here {x} {xs}) e = subst (λ (o : Option Y). In y (cons_option o (filter_map f xs))) (sym e) here
 in_filter_to f y (there {x} {y = z} {xs} i) e = in_cons (f z) (in_filter_to f y i e)
 
@@ -168,7 +168,7 @@ same_types aliases m (part.Abstract result) k e = (_, refl, ap method_fits (some
 same_types aliases m (part.Body result guard block) k e = (_, refl, ap method_fits (some_is _ k e))
 same_types aliases m (part.Constructor args block) k e = none_is k e
 
-is_opened : (ms : List Member) (x : Opened) → In x (map opened ms) → (m : Member) × In m ms × (opened m ≡ x)
+pub is_opened : (ms : List Member) (x : Opened) → In x (map opened ms) → (m : Member) × In m ms × (opened m ≡ x)
 is_opened ms x i = in_map_back opened ms x i
 
 -- the methods of a class can be named, as those of its declaration
@@ -183,10 +183,10 @@ methods_fit heads d h = all_from method_fits (filter_map as_own (seats_of heads 
 
 -- THE HEADS
 
-plain_heads : (ds : List Decl) → list_all has_plain_names ds ≡ true → (h : Iface) → In h (map head ds) → (d : Decl) × In d ds × (head d ≡ h) × (has_plain_names d ≡ true)
+pub plain_heads : (ds : List Decl) → list_all has_plain_names ds ≡ true → (h : Iface) → In h (map head ds) → (d : Decl) × In d ds × (head d ≡ h) × (has_plain_names d ≡ true)
 plain_heads ds plain h i = let g = in_map_back head ds h i in (g.0, g.1, g.2, all_in has_plain_names ds plain g.1)
 
-plain_methods : (d : Decl) → has_plain_names d ≡ true → (list_all method_fits (head d).methods ≡ true) × (list_all are_nameable (head d).constructors ≡ true)
+pub plain_methods : (d : Decl) → has_plain_names d ≡ true → (list_all method_fits (head d).methods ≡ true) × (list_all are_nameable (head d).constructors ≡ true)
 plain_methods d h =
     let rest = second_true (not (same d.name object_name)) (list_all method_fits (head d).methods && list_all are_nameable (head d).constructors) h in
     (first_true (list_all method_fits (head d).methods) (list_all are_nameable (head d).constructors) rest, second_true (list_all method_fits (head d).methods) (list_all are_nameable (head d).constructors) rest)
@@ -216,7 +216,7 @@ concrete_is true b e = absurd (false≢true e)
 concrete_is false true e = absurd (false≢true e)
 concrete_is false false e = refl
 
-not_so : (b : Bool) → not b ≡ true → b ≡ false
+pub not_so : (b : Bool) → not b ≡ true → b ≡ false
 not_so true e = absurd (false≢true e)
 not_so false e = refl
 
@@ -228,7 +228,7 @@ module _ (p : Program) (ds : List Decl) (made : Made (heads_of ds []) ds p.class
   heads = heads_of ds []
 
   -- a declaration is found by its name
-  found_head : (d : Decl) → In d ds → head_of heads d.name ≡ Some (head d)
+  pub found_head : (d : Decl) → In d ds → head_of heads d.name ≡ Some (head d)
   found_head d i =
       let st = standing heads [] ds keep d i in
       ap (λ (b : Bool). cond b (Some object_head) (cond (same io d.name) (Some io_head) (head_of (map head ds ++ []) d.name))) (no_object heads st.before d st.keeps)
@@ -314,7 +314,7 @@ module _ (p : Program) (ds : List Decl) (made : Made (heads_of ds []) ds p.class
   abbrev own_hier : Hier
   own_hier = hier_of (map head ds)
 
-  seen_found : (hs : List Iface) (name : Word) → class_named name (map seen_class hs) ≡ option_map seen_class (head_of hs name)
+  pub seen_found : (hs : List Iface) (name : Word) → class_named name (map seen_class hs) ≡ option_map seen_class (head_of hs name)
   seen_found [] name = refl
   seen_found (h ∷ hs) name = by_name (same h.name name) (seen_found hs name) where
     by_name : (b : Bool) → class_named name (map seen_class hs) ≡ option_map seen_class (head_of hs name) → cond b (Some (seen_class h)) (class_named name (map seen_class hs)) ≡ option_map seen_class (cond b (Some h) (head_of hs name))
@@ -322,7 +322,7 @@ module _ (p : Program) (ds : List Decl) (made : Made (heads_of ds []) ds p.class
     by_name false e = e
 
   -- a name of the unit's own classes
-  own_named : (name : Word) (h : Iface) → head_of (map head ds) name ≡ Some h → (d : Decl) × In d ds × (head d ≡ h) × (d.name ≡ name)
+  pub own_named : (name : Word) (h : Iface) → head_of (map head ds) name ≡ Some h → (d : Decl) × In d ds × (head d ≡ h) × (d.name ≡ name)
   own_named name h e =
       let g = find_in (λ (x : Iface). same x.name name) (map head ds) h e in
       let d = in_map_back head ds h g.0 in
@@ -383,18 +383,18 @@ module _ (p : Program) (ds : List Decl) (made : Made (heads_of ds []) ds p.class
         | inr j ↦ false≢true (sym st.keeps.acyclic ∙ (above_itself (record { heads = heads; earlier = st.before; decl = d })).1 (above.0, j, ways_in above.2))
       ]
 
-  own_acyclic : HasNoCycle own_hier
+  pub own_acyclic : HasNoCycle own_hier
   own_acyclic = none_above own_hier (λ c i above.
       let h = in_map_back seen_class (map head ds) c i in
       let d = in_map_back head ds h.0 h.1 in
       not_above d.0 d.1 (subst (IsAboveItself own_hier) (ap (λ (x : SeenClass). x.name) (sym h.2) ∙ ap (λ (x : Iface). x.name) (sym d.2)) above))
 
-  seen_same : {es : List Decl} {cs : List TypedClass} → Made heads es cs → map seen_class (map (λ c. c.head) cs) ≡ map seen_class (map head es)
+  pub seen_same : {es : List Decl} {cs : List TypedClass} → Made heads es cs → map seen_class (map (λ c. c.head) cs) ≡ map seen_class (map head es)
   seen_same none = refl
   seen_same (one {d} {ds = es} {c} {cs} f m) =
       ap (λ (x : Iface). seen_class x ∷ map seen_class (map (λ c. c.head) cs)) (first_of (head_is heads d c f)) ∙ ap (λ (xs : List SeenClass). seen_class (head d) ∷ xs) (seen_same m)
 
-  acyclic : HasNoCycle (hier_in p.classes)
+  pub acyclic : HasNoCycle (hier_in p.classes)
   acyclic = subst (λ (xs : List SeenClass). HasNoCycle (record { classes = xs })) (sym (seen_same made)) own_acyclic
 
   -- CLASSES
@@ -434,7 +434,7 @@ module _ (p : Program) (ds : List Decl) (made : Made (heads_of ds []) ds p.class
   program_fits : ProgramFits p
   program_fits = record { acyclic = acyclic; each = class_fits }
 
-unit_classes : (heads : List Iface) (ds : List OpenDecl) (tree : TypedUnit) → unit_in heads ds ≡ Some tree → made_classes heads (Some []) ds ≡ Some tree.classes
+pub unit_classes : (heads : List Iface) (ds : List OpenDecl) (tree : TypedUnit) → unit_in heads ds ≡ Some tree → made_classes heads (Some []) ds ≡ Some tree.classes
 unit_classes heads ds tree e = by_classes (made_classes heads (Some []) ds) e where
   by_classes : (o : Option (List TypedClass)) → option_map (λ cs. let x : TypedUnit = record { classes = cs } in x) o ≡ Some tree → o ≡ Some tree.classes
   by_classes None e = none_is tree e
