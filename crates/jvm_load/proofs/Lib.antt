@@ -5,3 +5,7 @@ pub mod Types
 pub mod FieldFacts
 pub mod LineLengths
 pub mod Reach
+pub mod Sorted
+pub mod Found
+pub mod Growth
+pub mod Placed

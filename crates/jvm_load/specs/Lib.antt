@@ -5,3 +5,4 @@ pub mod Lines
 pub mod Texts
 pub mod Fields
 pub mod Above
+pub mod Tables

@@ -7,6 +7,7 @@ mod fields;
 mod look_up;
 mod names;
 mod program;
+mod tables;
 #[cfg(test)]
 mod tests;
 mod walk;
@@ -15,3 +16,4 @@ pub use descriptor::{Signature, read_signature, result_of};
 pub use fields::FieldPlace;
 pub use names::{find_class, has_flag, is_static_member, name_of, text};
 pub use program::{Program, load};
+pub use tables::TableEntry;

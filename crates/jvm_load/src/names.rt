@@ -4,7 +4,6 @@ ghost use Rattle.std.specs.Str.{bytes_eq};
 ghost use Rattle.jp_store.specs.Classes as classes;
 ghost use Rattle.jvm_load.specs.FileClasses as spec;
 ghost use Rattle.jvm_load.specs.FileClasses.{text_at, class_text_at, superclass_of, classes_of, field_of_member, is_static};
-ghost use Rattle.jvm_load.specs.Methods.{is_method, own_method};
 
 use class_form::{ClassFile, MemberInfo, class_name, utf8};
 
@@ -45,7 +44,7 @@ pub fn is_static_member(member: &MemberInfo) -> bool
     has_flag(STATIC, member.flags)
 }
 
-fn superclass(file: &ClassFile) -> Option<&[u8]>
+pub(crate) fn superclass(file: &ClassFile) -> Option<&[u8]>
     ensures { option_map (λ name. name.now) result ≡ superclass_of file.now }
 {
     if file.super_class == 0 {
@@ -89,30 +88,4 @@ pub(crate) fn super_place(files: &[ClassFile], at: u32) -> Option<u32>
 {
     let file = files.get(at as usize)?;
     find_class(files, superclass(file)?)
-}
-
-pub(crate) fn own_method_position(file: &ClassFile, name: &[u8], descriptor: &[u8]) -> Option<usize>
-    ensures position { result ≡ position (is_method name.now descriptor.now file.now) file.now.methods }
-    ensures within { IfSome result (λ at. at < length file.now.methods) }
-{
-    file.methods
-        .as_slice()
-        .iter()
-        .position(|member| is_named(file, member, name, descriptor))
-}
-
-fn is_named(file: &ClassFile, member: &MemberInfo, name: &[u8], descriptor: &[u8]) -> bool
-    ensures { result ≡ is_method name.now descriptor.now file.now member.now }
-{
-    text(file, member.name) == name && text(file, member.descriptor) == descriptor
-}
-
-pub(crate) fn own_field_position(file: &ClassFile, name: &[u8]) -> Option<usize>
-    ensures position { result ≡ position (λ member. bytes_eq (text_at file.now member.name) name.now) file.now.fields }
-    ensures within { IfSome result (λ at. at < length file.now.fields) }
-{
-    file.fields
-        .as_slice()
-        .iter()
-        .position(|member| text(file, member.name) == name)
 }

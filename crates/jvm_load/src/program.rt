@@ -1,11 +1,14 @@
-ghost use Rattle.std.specs.Prelude.{◌≡◌, ◌<◌, length, IfOk, IfSome, slice_get};
+ghost use Rattle.std.specs.Prelude.{◌≡◌, ◌<◌, [], ◌∷◌, length, IfOk, IfSome, slice_get};
 ghost use Rattle.std.specs.Option.{option_map};
 ghost use Rattle.jp_store.specs.Classes.{line, is_below, is_below_in};
 ghost use Rattle.jvm_load.specs.FileClasses.{classes_of};
 ghost use Rattle.jvm_load.specs.Lines.{lines_of};
 ghost use Rattle.jvm_load.specs.Loadable.{IsLoadable, IsLoadableFile};
+ghost use Rattle.jvm_load.specs.Tables.{key_of, key_cmp, first_entry, found_above, IsTable};
+ghost use Rattle.jvm_load.specs.declared.tables.Listing.TheVariants.{OfClasses, OfMethods, OfFields};
 
 use crate::above::all_above;
+use crate::tables::{Listing, Table, TableEntry, all_tables, table_of};
 use crate::walk::walk_up;
 use class_form::ClassFile;
 use jp_store::ClassAt;
@@ -46,15 +49,20 @@ pub struct Program {
     files: Vec<ClassFile>,
     lines: Vec<Positions>,
     above: Vec<Positions>,
+    names: Table,
+    methods: Vec<Table>,
+    fields: Vec<Table>,
 }
 
 impl Model for Program {
-    ghost use Rattle.std.specs.Prelude.{◌≡◌, List, length};
+    ghost use Rattle.std.specs.Prelude.{◌≡◌, List, [], ◌∷◌, length};
     ghost use Rattle.class_form.specs.declared.class_file.ClassFile.{ClassFile as File};
     ghost use Rattle.jvm_load.specs.FileClasses.{classes_of};
     ghost use Rattle.jvm_load.specs.Lines.{lines_of};
     ghost use Rattle.jvm_load.specs.Above.{AreAbove};
     ghost use Rattle.jvm_load.specs.Loadable.{IsLoadable};
+    ghost use Rattle.jvm_load.specs.Tables.{key_of, key_cmp, first_entry, IsTable, AreTables};
+    ghost use Rattle.jvm_load.specs.declared.tables.Listing.TheVariants.{OfClasses, OfMethods, OfFields};
 
     ghost Value = { List File };
 
@@ -62,7 +70,10 @@ impl Model for Program {
 
     ghost invariant = { λ p.
         IsLoadable p.files.items × (p.lines.items ≡ lines_of (classes_of p.files.items) (length p.files.items))
-        × AreAbove (classes_of p.files.items) (length p.files.items) p.above.items };
+        × AreAbove (classes_of p.files.items) (length p.files.items) p.above.items
+        × IsTable key_cmp (key_of OfClasses p.files.items) (first_entry OfClasses p.files.items (0 ∷ [])) p.names
+        × AreTables OfMethods p.files.items (length p.files.items) p.methods.items
+        × AreTables OfFields p.files.items (length p.files.items) p.fields.items };
 }
 
 impl Program {
@@ -89,6 +100,31 @@ impl Program {
     {
         let line = &self.lines[at as usize];
         line.as_slice()
+    }
+
+    // The classes by name.
+    pub(crate) fn names(&self) -> &[TableEntry]
+        ensures { IsTable key_cmp (key_of OfClasses self.now) (first_entry OfClasses self.now (0 ∷ [])) result.now }
+    {
+        self.names.as_slice()
+    }
+
+    // The methods that are found upwards from a class, by name and descriptor.
+    pub(crate) fn methods_above(&self, class: u32) -> &[TableEntry]
+        requires { class < length self.now }
+        ensures { IsTable key_cmp (key_of OfMethods self.now) (found_above OfMethods self.now class) result.now }
+    {
+        let table = &self.methods[class as usize];
+        table.as_slice()
+    }
+
+    // The fields that are found upwards from a class, by name.
+    pub(crate) fn fields_above(&self, class: u32) -> &[TableEntry]
+        requires { class < length self.now }
+        ensures { IsTable key_cmp (key_of OfFields self.now) (found_above OfFields self.now class) result.now }
+    {
+        let table = &self.fields[class as usize];
+        table.as_slice()
     }
 
     /// Whether a class is another one or below it, through super classes and interfaces. All are below Object.
@@ -125,10 +161,26 @@ pub fn load(alloc: Global, files: &[ClassFile]) -> Result<Program, AllocError>
     let copies = copy_files(alloc, files)?;
     let lines = all_lines(alloc, copies.as_slice())?;
     let above = all_above(alloc, copies.as_slice())?;
+    let names = table_of(alloc, Listing::OfClasses, copies.as_slice(), &[0])?;
+    let methods = all_tables(
+        alloc,
+        Listing::OfMethods,
+        copies.as_slice(),
+        lines.as_slice(),
+    )?;
+    let fields = all_tables(
+        alloc,
+        Listing::OfFields,
+        copies.as_slice(),
+        lines.as_slice(),
+    )?;
     Ok(Program {
         files: copies,
         lines,
         above,
+        names,
+        methods,
+        fields,
     })
 }
 
