@@ -1,4 +1,5 @@
 mod Chains
+mod Growing
 mod Holding
 mod Keeping
 mod Laying

@@ -1,5 +1,5 @@
 -- What a constant's index names, whatever stands behind the constants.
-use Rattle.std.proofs.Common.{◌≡◌, ℕ, zero, suc, ◌+◌, ◌<◌, ◌≤◌, ℤ, Bool, true, false, not, ◌||◌, ◌&&◌, cond, if◌then◌else◌, List, [], ◌∷◌, ◌++◌, length, Option, Some, Result, Ok, Err, IfOk, refl, sym, ap, ◌∙◌, subst, arith, append_assoc, length-append, true≢false, eqb}
+use Rattle.std.proofs.Common.{◌≡◌, ℕ, suc, ◌+◌, ℤ, Bool, true, false, not, ◌||◌, ◌&&◌, cond, if◌then◌else◌, List, [], ◌∷◌, ◌++◌, length, Option, Some, Result, Ok, Err, IfOk, refl, sym, ap, ◌∙◌, subst, arith, append_assoc, length-append, true≢false, eqb}
 use Rattle.std.proofs.lemmas.List.{append-nil}
 use Rattle.std.proofs.lemmas.Bool.{eqb-true, eq-eqb, false≢true}
 use Rattle.std.proofs.lemmas.Bool.Decides.{Decides-int_eq}
@@ -15,7 +15,7 @@ use Rattle.class_form.specs.declared.class_file.ClassFile.{ClassFile}
 use Rattle.class_form.specs.Constants.{text_in, class_in, utf8_at, class_name_at}
 use Rattle.class_form.specs.WellFormed.{is_wide}
 use Rattle.jp_store.specs.Classes.{Key}
-use Rattle.jvm_table.specs.Constants.{member_named, name_and_type_in, string_in, literal_at}
+use Rattle.jvm_table.specs.Constants.{member_named, string_in, literal_at}
 use Rattle.code_asm.specs.Held.{Held, is_same, with_rest, hold, hold_class, hold_text, hold_name_and_type, hold_member, Extends, InFiles, Answers}
 use Rattle.code_asm.specs.declared.fault.AsmFault.{AsmFault}
 

@@ -1,5 +1,5 @@
 -- The bytes of an instruction are read back as the instruction.
-use Rattle.std.proofs.Common.{◌≡◌, ℕ, zero, suc, ◌+◌, ◌-◌, ◌*◌, ◌/◌, ◌%◌, ◌^◌, ◌<◌, ◌≤◌, ℤ, pos, negsuc, ◌-ℤ◌, Bool, true, false, not, ◌&&◌, cond, if◌then◌else◌, List, [], ◌∷◌, ◌++◌, length, length-append, append_assoc, Option, Some, None, refl, sym, ap, ◌∙◌, subst, arith, true≢false, lt-ltb, le-ltb, ltb, leb, le-leb, to_z, of_z, w8, w16}
+use Rattle.std.proofs.Common.{◌≡◌, ℕ, zero, suc, ◌+◌, ◌-◌, ◌*◌, ◌/◌, ◌%◌, ◌^◌, ◌<◌, ◌≤◌, ℤ, pos, negsuc, ◌-ℤ◌, Bool, true, false, not, ◌&&◌, cond, if◌then◌else◌, List, [], ◌∷◌, ◌++◌, length, length-append, append_assoc, Option, Some, None, refl, sym, ap, ◌∙◌, subst, arith, lt-ltb, le-ltb, ltb, leb, le-leb, w8, w16}
 use Rattle.std.proofs.lemmas.Int.{ints}
 use Rattle.std.proofs.lemmas.Bool.{ltb-true, ltb-false, eqb-true, false≢true}
 use Rattle.std.specs.Prelude.{slice_get, nat_lt, ◌==◌}
@@ -22,7 +22,6 @@ use Rattle.jvm_table.specs.declared.instr.ConstantUse.{ConstantUse}
 use Rattle.jvm_table.specs.declared.instr.ConstantUse.TheVariants.{PushConstant, PushLongConstant, GetStatic, PutStatic, GetField, PutField, InvokeVirtual, InvokeSpecial, InvokeStatic, MakeObject, MakeReferences, CheckCast, InstanceOf}
 use Rattle.jvm_table.specs.declared.opcode.Form.{Form}
 use Rattle.jvm_table.specs.declared.opcode.Form.TheVariants as form
-use Rattle.jvm_table.specs.declared.decode.Row.{Row}
 use Rattle.jvm_table.specs.Decode.{two_at, signed, target_of, sized, array_instr, row_of, row_at}
 use Rattle.jvm_table.specs.Opcodes.{form_in, rows}
 use Rattle.code_asm.specs.Pieces.{is_short, distance}

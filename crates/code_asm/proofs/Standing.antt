@@ -1,33 +1,30 @@
 -- Items whose pieces are laid out stand in the code.
-use Rattle.std.proofs.Common.{◌≡◌, ℕ, zero, suc, ◌+◌, ◌<◌, ◌≤◌, ℤ, Bool, true, false, ◌||◌, ◌&&◌, cond, if◌then◌else◌, List, [], ◌∷◌, ◌++◌, length, Option, Some, None, Result, Ok, Err, refl, sym, ap, ◌∙◌, subst, arith, length-append, true≢false, eqb, ltb, inl, inr, add-zero, zero-add, eq-eqb}
-use Rattle.std.proofs.lemmas.Bool.{false≢true, ltb-true, ltb-false}
+use Rattle.std.proofs.Common.{◌≡◌, ℕ, ◌+◌, ◌<◌, ◌≤◌, ℤ, Bool, true, false, ◌||◌, ◌&&◌, cond, if◌then◌else◌, List, [], ◌∷◌, ◌++◌, length, Option, Some, None, Ok, Err, refl, sym, ap, ◌∙◌, subst, arith, length-append, true≢false, eqb, ltb, inl, inr, add-zero, zero-add, eq-eqb}
+use Rattle.std.proofs.lemmas.Bool.{ltb-true, ltb-false}
 use Rattle.std.proofs.lemmas.Bool.Decides.{eqb_tells}
-use Rattle.std.proofs.lemmas.List.{append-nil}
-use Rattle.std.proofs.lemmas.Option.{slice_get_within}
-use Rattle.std.specs.Prelude.{slice_get, nat_lt}
-use Rattle.std.specs.Option.{option_and_then}
+use Rattle.std.specs.Prelude.{nat_lt}
 use Rattle.std.specs.Int.{w16, cast_unsigned}
 use Rattle.class_form.specs.declared.constant.Const.{Const}
-use Rattle.class_form.specs.declared.constant.Const.TheVariants.{Unused, Utf8, Integer, Class, Text, Fieldref, Methodref, InterfaceMethodref}
+use Rattle.class_form.specs.declared.constant.Const.TheVariants.{Unused, Integer, Text, Fieldref, Methodref, InterfaceMethodref}
 use Rattle.class_form.specs.declared.class_file.ClassFile.{ClassFile}
 use Rattle.class_form.specs.declared.member.Code.{Code}
 use Rattle.class_form.specs.Layout.{u2}
 use Rattle.jp_store.specs.Classes.{Key}
 use Rattle.jvm_table.specs.declared.instr.Instr.{Instr}
-use Rattle.jvm_table.specs.declared.instr.Instr.TheVariants.{JumpTo, OnConstant, InvokeInterface}
+use Rattle.jvm_table.specs.declared.instr.Instr.TheVariants.{OnConstant, InvokeInterface}
 use Rattle.jvm_table.specs.Decode.{row_at}
 use Rattle.jvm_table.specs.Constants.{field_in, method_in, interface_method_in, member_named}
 use Rattle.jvm_table.specs.Descriptors.{places_of}
-use Rattle.code_asm.specs.declared.fault.AsmFault.{AsmFault}
-use Rattle.code_asm.specs.declared.fault.AsmFault.TheVariants.{TooLong, FarJump}
-use Rattle.code_asm.specs.Held.{Held, hold, hold_class, hold_text, hold_member}
+use Rattle.code_asm.specs.declared.fault.AsmFault.TheVariants.{TooLong}
+use Rattle.code_asm.specs.Held.{hold, hold_class, hold_text}
 use Rattle.code_asm.specs.Items.{Wanted, IntOf, TextOf, FieldOf, ClassOf, MethodOf, FamilyOf, BuiltIn, Item, Plain, Uses, CallsInterface, Branch, Mark, Names, Stands}
-use Rattle.code_asm.specs.Lines.{name_of, named_of, line_of, lines_of, is_marked_in, MarkOnce}
-use Rattle.code_asm.specs.Pieces.{Piece, OpPiece, JumpPiece, MarkPiece, size_of, size_of_all, marks, is_marked, place_in, distance, is_short, far_jump, laid, bytes_of_all, unless_far, finished}
+use Rattle.code_asm.specs.Lines.{name_of, named_of, lines_of}
+use Rattle.code_asm.specs.Pieces.{Piece, OpPiece, JumpPiece, MarkPiece, size_of, size_of_all, is_marked, place_in, distance, is_short, far_jump, laid, bytes_of_all, unless_far, finished}
 use Rattle.code_asm.specs.Encoding.{bytes_of, jump_opcode, use_bytes, interface_bytes}
-use Rattle.code_asm.specs.Written.{hold_name, hold_named, op_piece, AreOf, IsMeant, AreMeant}
+use Rattle.code_asm.specs.Written.{hold_name, hold_named, AreOf, IsMeant, AreMeant}
 use Rattle.code_asm.specs.Laws.{ItemsStand}
 use Rattle.code_asm.proofs.Keeping.{place_in-le}
+use Rattle.code_asm.proofs.Growing.{IsOp, opened, opened_if, both_left, AreMarkedOnce, pieces_once}
 use Rattle.code_asm.proofs.Naming.{IsProper, pair_proper, HasAt, held_has, ClassAt, TextAt, MemberAt, class_has, text_has, member_has, constant_in, utf8_in, class_name_in, member_in}
 use Rattle.code_asm.proofs.Rows.{BytesAt, front_at, back_at, all_at, ReadsBack, plain_read, use_read, interface_read, jump_read, length-u2}
 
@@ -57,33 +54,6 @@ module _ (list more : List Const) (file : ClassFile) (has : file.constants ≡ U
   wanted_named (MethodOf key signature) e m = (key_named Methodref pair_proper method_in (λ a b. refl) key e, m.0, m.1)
   wanted_named (FamilyOf key signature) e m = (key_named Methodref pair_proper method_in (λ a b. refl) key e, m.0, m.1, m.2)
   wanted_named (BuiltIn key) e m = key_named Methodref pair_proper method_in (λ a b. refl) key e
-
--- a piece that is an opcode with operands
-record IsOp (bytes : Option (List ℕ)) (piece : Piece) : Type 0 where
-  opcode : ℕ
-  operands : List ℕ
-  spelled : bytes ≡ Some (opcode ∷ operands)
-  is : piece ≡ OpPiece opcode operands
-
-opened : (bytes : Option (List ℕ)) (piece : Piece) → option_and_then op_piece bytes ≡ Some piece → IsOp bytes piece
-opened None piece e = absurd cc
-opened (Some []) piece e = absurd cc
-opened (Some (opcode ∷ operands)) piece e = record { opcode = opcode; operands = operands; spelled = refl; is = cc }
-
-opened_if : (b : Bool) (bytes : List ℕ) (piece : Piece) → (if b then op_piece bytes else None) ≡ Some piece → (b ≡ true) × IsOp (Some bytes) piece
-opened_if true bytes piece e = (refl, opened (Some bytes) piece e)
-opened_if false bytes piece e = absurd cc
-
-both_left : (a b : Bool) → (a && b) ≡ true → a ≡ true
-both_left true b h = refl
-both_left false b h = h
-
--- each label is marked once among pieces too
-abbrev AreMarkedOnce : List Piece → Type 0
-AreMarkedOnce [] = Unit {0}
-AreMarkedOnce (OpPiece opcode operands ∷ pieces) = AreMarkedOnce pieces
-AreMarkedOnce (JumpPiece opcode label ∷ pieces) = AreMarkedOnce pieces
-AreMarkedOnce (MarkPiece label ∷ pieces) = (is_marked pieces label ≡ false) × AreMarkedOnce pieces
 
 module _ (code : List ℕ) (place : ℕ → ℕ) (near : (l : ℕ) → place l < 65536) where
   -- pieces are laid out from a place on
@@ -199,53 +169,6 @@ module _ (code : List ℕ) (place : ℕ → ℕ) (near : (l : ℕ) → place l <
         let e : at + size_of_all pieces ≡ at + size_of_all (piece ∷ pieces) = omega (arith, ap size_of is) in
         (mark_here at label pieces g, subst (Stands file code place at items) e (stand items pieces at (fits_mark at label pieces g) of.2 meant))
 
--- pieces mark what their items mark
-pieces_marked : (list : List Const) (items : List Item) (pieces : List Piece) (l : ℕ) → AreOf list (lines_of items) pieces → is_marked pieces l ≡ is_marked_in (lines_of items) l
-pieces_marked list [] [] l of = refl
-pieces_marked list [] (p ∷ ps) l of = absurd of
-pieces_marked list (Plain instr ∷ items) [] l of = absurd of
-pieces_marked list (Uses use_ w ∷ items) [] l of = absurd of
-pieces_marked list (CallsInterface key s ∷ items) [] l of = absurd of
-pieces_marked list (Branch jump to ∷ items) [] l of = absurd of
-pieces_marked list (Mark to ∷ items) [] l of = absurd of
-pieces_marked list (Plain instr ∷ items) (p ∷ ps) l of = ap (λ q. marks l q || is_marked ps l) (opened (bytes_of instr) p of.1).is ∙ pieces_marked list items ps l of.2
-pieces_marked list (Uses use_ w ∷ items) (p ∷ ps) l of =
-    let i : ℕ = (hold_named list (named_of w)).index in
-    ap (λ q. marks l q || is_marked ps l) (opened_if (nat_lt i 65536) (use_bytes use_ i) p of.1).1.is ∙ pieces_marked list items ps l of.2
-pieces_marked list (CallsInterface key s ∷ items) (p ∷ ps) l of =
-    let i : ℕ = (hold_name InterfaceMethodref list (name_of key)).index in
-    let n : ℕ = 1 + places_of s.parameters in
-    ap (λ q. marks l q || is_marked ps l) (opened_if (nat_lt i 65536 && nat_lt n 256) (interface_bytes i n) p of.1).1.is ∙ pieces_marked list items ps l of.2
-pieces_marked list (Branch jump to ∷ items) (p ∷ ps) l of =
-    let is : p ≡ JumpPiece (jump_opcode jump) to = cc in
-    ap (λ q. marks l q || is_marked ps l) is ∙ pieces_marked list items ps l of.2
-pieces_marked list (Mark to ∷ items) (p ∷ ps) l of =
-    let is : p ≡ MarkPiece to = cc in
-    ap (λ q. marks l q || is_marked ps l) is ∙ ap (λ b. eqb l to || b) (pieces_marked list items ps l of.2)
-
-pieces_once : (list : List Const) (items : List Item) (pieces : List Piece) → AreOf list (lines_of items) pieces → MarkOnce (lines_of items) → AreMarkedOnce pieces
-pieces_once list [] [] of once = tt
-pieces_once list [] (p ∷ ps) of once = absurd of
-pieces_once list (Plain instr ∷ items) [] of once = absurd of
-pieces_once list (Uses use_ w ∷ items) [] of once = absurd of
-pieces_once list (CallsInterface key s ∷ items) [] of once = absurd of
-pieces_once list (Branch jump to ∷ items) [] of once = absurd of
-pieces_once list (Mark to ∷ items) [] of once = absurd of
-pieces_once list (Plain instr ∷ items) (p ∷ ps) of once = subst (λ q. AreMarkedOnce (q ∷ ps)) (sym (opened (bytes_of instr) p of.1).is) (pieces_once list items ps of.2 once)
-pieces_once list (Uses use_ w ∷ items) (p ∷ ps) of once =
-    let i : ℕ = (hold_named list (named_of w)).index in
-    subst (λ q. AreMarkedOnce (q ∷ ps)) (sym (opened_if (nat_lt i 65536) (use_bytes use_ i) p of.1).1.is) (pieces_once list items ps of.2 once)
-pieces_once list (CallsInterface key s ∷ items) (p ∷ ps) of once =
-    let i : ℕ = (hold_name InterfaceMethodref list (name_of key)).index in
-    let n : ℕ = 1 + places_of s.parameters in
-    subst (λ q. AreMarkedOnce (q ∷ ps)) (sym (opened_if (nat_lt i 65536 && nat_lt n 256) (interface_bytes i n) p of.1).1.is) (pieces_once list items ps of.2 once)
-pieces_once list (Branch jump to ∷ items) (p ∷ ps) of once =
-    let is : JumpPiece (jump_opcode jump) to ≡ p = cc in
-    subst (λ q. AreMarkedOnce (q ∷ ps)) is (pieces_once list items ps of.2 once)
-pieces_once list (Mark to ∷ items) (p ∷ ps) of once =
-    let is : MarkPiece to ≡ p = cc in
-    subst (λ q. AreMarkedOnce (q ∷ ps)) is (pieces_marked list items ps to of.2 ∙ once.0, pieces_once list items ps of.2 once.1)
-
 -- code that is finished
 record IsFinished (pieces : List Piece) (code : Code) : Type 0 where
   few : size_of_all pieces ≤ 65535
@@ -280,7 +203,7 @@ items_stand_lem file list more items pieces stack locals code has of meant once 
     let d = is_finished pieces stack locals code done in
     let near : (l : ℕ) → place_in pieces l < 65536 = λ l. omega (arith, place_in-le pieces l, d.few) in
     let whole : List ℕ = bytes_of_all pieces in
-    let f : Fits whole (place_in pieces) near 0 pieces = record { bytes = all_at whole; once = pieces_once list items pieces of once; far = d.near; agrees = λ l m. sym (zero-add (place_in pieces l)); short = omega (arith, d.few) } in
+    let f : Fits whole (place_in pieces) near 0 pieces = record { bytes = all_at whole; once = pieces_once list (lines_of items) pieces of once; far = d.near; agrees = λ l m. sym (zero-add (place_in pieces l)); short = omega (arith, d.few) } in
     let e : 0 + size_of_all pieces ≡ length whole = omega (arith, length-laid (place_in pieces) 0 pieces) in
     subst (λ bytes. Stands file bytes (place_in pieces) 0 items (length bytes)) (sym d.bytes)
     (subst (Stands file whole (place_in pieces) 0 items) e (stand whole (place_in pieces) near list more file has items pieces 0 f of meant))

@@ -1,5 +1,5 @@
 -- The bytes of instructions, by their shortest opcodes (JVM specification, second edition, chapter 6).
-use Rattle.std.specs.Prelude.{ℕ, ◌+◌, ℤ, pos, negsuc, int_lt, Bool, true, false, not, ◌&&◌, nat_lt, ◌==◌, if◌then◌else◌, List, [], ◌∷◌, ◌++◌, Option, Some, None}
+use Rattle.std.specs.Prelude.{ℕ, ◌+◌, ℤ, pos, negsuc, int_lt, Bool, false, not, ◌&&◌, nat_lt, ◌==◌, if◌then◌else◌, List, [], ◌∷◌, ◌++◌, Option, Some, None}
 use Rattle.std.specs.Int.{w8, w16, cast_unsigned}
 use Rattle.class_form.specs.Layout.{u2}
 use Rattle.jp_store.specs.declared.value.Kind.{Kind}

@@ -1,5 +1,5 @@
 -- What is known of code that is written by items.
-use Rattle.std.specs.Prelude.{◌≡◌, ℕ, List, [], ◌∷◌, ◌++◌, length, Ok}
+use Rattle.std.specs.Prelude.{◌≡◌, ℕ, List, ◌∷◌, ◌++◌, length, Ok}
 use Rattle.class_form.specs.declared.constant.Const.{Const}
 use Rattle.class_form.specs.declared.constant.Const.TheVariants.{Unused}
 use Rattle.class_form.specs.declared.class_file.ClassFile.{ClassFile}

@@ -1,3 +1,4 @@
+pub mod Assembled
 pub mod Encoded
 pub mod Encoding
 pub mod Entries

@@ -3,6 +3,7 @@
 #![tactic(auto)]
 
 mod asm;
+mod assembly;
 mod encode;
 mod entry;
 mod fault;
@@ -11,6 +12,7 @@ mod line;
 mod pool;
 
 pub use asm::{Asm, Label};
+pub use assembly::assemble;
 pub use fault::AsmFault;
 pub use laws::items_stand;
 pub use line::{Line, MemberName, Named};
