@@ -1,3 +1,4 @@
+pub mod FaultLists
 pub mod Levels
 pub mod Misfits
 pub mod Search

@@ -4,6 +4,7 @@ ghost use Rattle.jp_pred.specs.Kinds.{is_array, is_reference};
 ghost use Rattle.type_rules.specs.Types.{io, is_reserved, is_int, is_boolean, is_void, is_named, same_type, is_refused, is_unknown};
 
 use jp_pred::{Name, Ty};
+use sqlite_items::Items;
 use std::alloc::{AllocError, Global};
 
 /// Whether it is the name of the class of input and output.
@@ -104,4 +105,15 @@ pub fn copy_ty(alloc: Global, ty: &Ty) -> Result<Ty, AllocError>
         Ty::BooleanArray => Ok(Ty::BooleanArray),
         Ty::ClassArray(name) => Ok(Ty::ClassArray(name.copy(alloc)?)),
     }
+}
+
+/// The same types, in memory of their own.
+pub fn copy_types(alloc: Global, types: &[Ty]) -> Result<Items<Ty>, AllocError>
+    ensures { IfOk result (λ copy. copy ≡ types.now) }
+{
+    let mut copy = Items::new(alloc);
+    for ty in types {
+        copy.push(copy_ty(alloc, ty)?)?;
+    }
+    Ok(copy)
 }
