@@ -1,0 +1,5 @@
+pub mod DotCalls
+pub mod Groups
+pub mod Resolving
+pub mod Settling
+pub mod Typing
