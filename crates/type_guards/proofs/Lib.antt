@@ -1,0 +1,4 @@
+pub mod GuardNames
+pub mod LastTests
+pub mod NodeFaults
+pub mod Walked
