@@ -7,6 +7,7 @@ mod check;
 mod fault;
 mod lay;
 mod names;
+mod start;
 
 pub use body::Body;
 pub use fault::BodyFault;
