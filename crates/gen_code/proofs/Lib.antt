@@ -1,2 +1,3 @@
-mod Places
+pub mod Formed
+mod Parameters
 mod Written

@@ -1,7 +1,7 @@
 use Rattle.std.proofs.Common.{◌≡◌, ap, ◌∙◌, arith}
 use Rattle.jp_meaning.specs.Descriptors.{kind_of_type}
 use Rattle.gen_code.specs.Emitted.{places_for}
-use Rattle.gen_code.proofs.Places.{places_next}
+use Rattle.gen_code.proofs.Parameters.{places_next}
 use Rattle.gen_code.proofs.calls.places_with_receiver.Goals as goal
 
 pub loop-ty-preserved : goal.loop-ty-preserved
