@@ -12,25 +12,10 @@ use Rattle.jp_meaning.specs.declared.expr.TypedKind.TheOpen as form
 use Rattle.jp_meaning.specs.declared.expr.TypedKind.TheFolds.{ind-TypedExpr, fold-TypedKind, fold-roll-TypedExpr, fold-roll-TypedKind, map-TypedKind}
 use Rattle.jp_meaning.specs.Descriptors.{kind_of_type, elements_of}
 use Rattle.jp_meaning.specs.Signs.{Prefix, Plus, Minus, Not, Complement, Infix, Operates, Compares, AndThen, OrElse, prefix_of, infix_of}
-use Rattle.jvm_table.specs.declared.instr.Instr.TheVariants.{PushNull, PopTop}
-use Rattle.code_asm.specs.Items.{Item, Plain, Branch}
-use Rattle.gen_body.specs.Codes.{Codes, SpotCodes, Literal, Zero, Nil, Anything, Coded, called, jump_where, local_codes, local_spot, prefix_codes, infix_codes, compare_codes, array_codes, coded_step, coded}
-use Rattle.gen_code.specs.Emitted.{Shape, shape_step, shape_of, code_of, local_place}
-
--- what drops a value stands behind what pushes it
-abbrev IsFull : Codes → Type 0
-IsFull c = c.done ≡ c.value ++ Plain PopTop ∷ []
-
--- what goes on by a value stands behind what pushes it
-abbrev JumpsByValue : Codes → Type 0
-JumpsByValue c = (want : Bool) (label : ℕ) → c.test want label ≡ c.value ++ Branch (jump_where want) label ∷ []
-
--- the code is of the shape
-pub record Fits (c : Coded) (s : Shape) : Type 0 where
-  pub void : (n : ℕ) → s.void ≡ true → (c.codes n).value ≡ (c.codes n).done ++ Plain PushNull ∷ []
-  pub full : (n : ℕ) → s.void ≡ false → IsFull (c.codes n)
-  pub jumps : (n : ℕ) → s.operates ≡ false → JumpsByValue (c.codes n)
-  pub place : (n : ℕ) → (c.spot n).place ≡ s.place
+use Rattle.jvm_table.specs.declared.instr.Instr.TheVariants.{PushNull}
+use Rattle.code_asm.specs.Items.{Item, Plain}
+use Rattle.gen_body.specs.Codes.{Codes, Literal, Zero, Nil, Anything, Coded, called, local_codes, local_spot, prefix_codes, infix_codes, compare_codes, array_codes, coded_step, coded}
+use Rattle.gen_code.specs.Emitted.{Shape, shape_step, shape_of, code_of, local_place, IsFull, JumpsByValue, HasShape, CodeHasItsShape}
 
 prefix_full : (p : Option Prefix) (right : Coded) (n : ℕ) → IsFull (prefix_codes p right n)
 prefix_full None right n = refl
@@ -99,7 +84,7 @@ abbrev whole_shape : TypedExpr → Shape
 whole_shape = fold-TypedExpr (Ty → Shape) Shape shape_step (λ e. e.kind e.ty)
 
 layer : (z : TypedKind-F TypedKind TypedExpr) (t : Ty) →
-    Fits (coded_step (map-TypedKind TypedKind TypedExpr (Ty → Coded) Coded kind_coded whole_coded z) t) (shape_step (map-TypedKind TypedKind TypedExpr (Ty → Shape) Shape kind_shape whole_shape z) t)
+    HasShape (coded_step (map-TypedKind TypedKind TypedExpr (Ty → Coded) Coded kind_coded whole_coded z) t) (shape_step (map-TypedKind TypedKind TypedExpr (Ty → Shape) Shape kind_shape whole_shape z) t)
 layer (form.Number value hex) t = record {
   void = λ n e. absurd cc;
   full = λ n e. refl;
@@ -236,13 +221,13 @@ layer form.Read t = record {
 with_both : {A B : Type 0} (Q : A → B → Type 0) (a c : A) (b d : B) → a ≡ c → b ≡ d → Q c d → Q a b
 with_both Q a c b d e f q = subst (λ x. Q x b) (sym e) (subst (λ y. Q c y) (sym f) q)
 
-expr_fits : (e : TypedExpr) → Fits (whole_coded e) (whole_shape e)
-expr_fits = ind-TypedExpr (λ k. (t : Ty) → Fits (kind_coded k t) (kind_shape k t)) (λ e. Fits (whole_coded e) (whole_shape e))
-    (λ x y is. with_both (λ (f : Ty → Coded) (g : Ty → Shape). (t : Ty) → Fits (f t) (g t)) _ _ _ _ (fold-roll-TypedKind (Ty → Coded) Coded coded_step (λ e. e.kind e.ty) x) (fold-roll-TypedKind (Ty → Shape) Shape shape_step (λ e. e.kind e.ty) x) (layer x))
-    (λ x y is. with_both Fits _ _ _ _ (fold-roll-TypedExpr (Ty → Coded) Coded coded_step (λ e. e.kind e.ty) x) (fold-roll-TypedExpr (Ty → Shape) Shape shape_step (λ e. e.kind e.ty) x)
-    (subst (λ (z : form.TypedExpr-F TypedKind TypedExpr). Fits (kind_coded z.kind z.ty) (kind_shape z.kind z.ty)) is (y.kind.1 y.ty)))
+expr_fits : (e : TypedExpr) → HasShape (whole_coded e) (whole_shape e)
+expr_fits = ind-TypedExpr (λ k. (t : Ty) → HasShape (kind_coded k t) (kind_shape k t)) (λ e. HasShape (whole_coded e) (whole_shape e))
+    (λ x y is. with_both (λ (f : Ty → Coded) (g : Ty → Shape). (t : Ty) → HasShape (f t) (g t)) _ _ _ _ (fold-roll-TypedKind (Ty → Coded) Coded coded_step (λ e. e.kind e.ty) x) (fold-roll-TypedKind (Ty → Shape) Shape shape_step (λ e. e.kind e.ty) x) (layer x))
+    (λ x y is. with_both HasShape _ _ _ _ (fold-roll-TypedExpr (Ty → Coded) Coded coded_step (λ e. e.kind e.ty) x) (fold-roll-TypedExpr (Ty → Shape) Shape shape_step (λ e. e.kind e.ty) x)
+    (subst (λ (z : form.TypedExpr-F TypedKind TypedExpr). HasShape (kind_coded z.kind z.ty) (kind_shape z.kind z.ty)) is (y.kind.1 y.ty)))
 
 -- the code of an expression is of its shape
-pub code_fits : (e : TypedExpr) → Fits (code_of e) (shape_of e)
+pub code_fits : CodeHasItsShape
 unfolding code_of shape_of
 code_fits e = expr_fits e

@@ -1,3 +1,3 @@
-pub mod Formed
+mod Formed
 mod Parameters
 mod Written

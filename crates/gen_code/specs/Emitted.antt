@@ -1,5 +1,5 @@
 -- Signs and literals as the writer of code has them, and the code of expressions by a name that proofs can keep closed.
-use Rattle.std.specs.Prelude.{ℕ, ◌∷◌, [], List, Bool, true, false, cond, is_none, Option, Some, None}
+use Rattle.std.specs.Prelude.{ℕ, ◌∷◌, [], List, Bool, true, false, is_none, Option, Some, None, ◌≡◌, ◌++◌}
 use Rattle.jp_pred.specs.declared.ty.Ty.{Ty}
 use Rattle.jp_store.specs.declared.value.Kind.{Kind}
 use Rattle.jp_store.specs.Work.{NamedElement}
@@ -9,9 +9,9 @@ use Rattle.jp_meaning.specs.declared.expr.TypedKind.{TypedKind-F}
 use Rattle.jp_meaning.specs.declared.expr.TypedKind.TheOpen as form
 use Rattle.jp_meaning.specs.Descriptors.{key_of, kind_of_type, element_kind_of}
 use Rattle.jp_meaning.specs.Signs.{Prefix, Plus, Minus, Not, Complement, Infix, Operates, Compares, AndThen, OrElse, Change, Becomes, Changes}
-use Rattle.jvm_table.specs.declared.instr.Instr.TheVariants.{Load}
-use Rattle.code_asm.specs.Items.{Item, Plain}
-use Rattle.gen_body.specs.Codes.{Codes, Place, LocalAt, FieldAt, StaticAt, ElementAt, Nowhere, Coded, Literal, Zero, Nil, Anything, make_array, coded}
+use Rattle.jvm_table.specs.declared.instr.Instr.TheVariants.{Load, PushNull, PopTop}
+use Rattle.code_asm.specs.Items.{Item, Plain, Branch}
+use Rattle.gen_body.specs.Codes.{Codes, Place, LocalAt, FieldAt, StaticAt, ElementAt, Nowhere, Coded, Literal, Zero, Nil, Anything, make_array, coded, jump_where}
 use Rattle.gen_code.specs.declared.signs.Prefix.{Prefix as PrefixSign}
 use Rattle.gen_code.specs.declared.signs.Prefix.TheVariants as front
 use Rattle.gen_code.specs.declared.signs.Infix.{Infix as InfixSign}
@@ -118,3 +118,23 @@ places_for (Some kind) = width_of_kind kind
 abbrev pub root_code : ℕ → Option Kind → List Item
 root_code root None = []
 root_code root (Some kind) = Plain (Load kind root) ∷ []
+
+-- what drops a value stands behind what pushes it
+abbrev pub IsFull : Codes → Type 0
+IsFull c = c.done ≡ c.value ++ Plain PopTop ∷ []
+
+-- what goes on by a value stands behind what pushes it
+abbrev pub JumpsByValue : Codes → Type 0
+JumpsByValue c = (want : Bool) (label : ℕ) → c.test want label ≡ c.value ++ Branch (jump_where want) label ∷ []
+
+-- The code is of the shape: one that leaves nothing has null pushed where a value is wanted, any other is dropped where none
+-- is; without an operator its test jumps by its value; and what is assigned to is its place
+pub record HasShape (c : Coded) (s : Shape) : Type 0 where
+  pub void : (n : ℕ) → s.void ≡ true → (c.codes n).value ≡ (c.codes n).done ++ Plain PushNull ∷ []
+  pub full : (n : ℕ) → s.void ≡ false → IsFull (c.codes n)
+  pub jumps : (n : ℕ) → s.operates ≡ false → JumpsByValue (c.codes n)
+  pub place : (n : ℕ) → (c.spot n).place ≡ s.place
+
+-- the code of an expression is of its shape
+abbrev pub CodeHasItsShape : Type 0
+CodeHasItsShape = (e : TypedExpr) → HasShape (code_of e) (shape_of e)

@@ -5,6 +5,7 @@ mod body;
 mod calls;
 mod check;
 mod fault;
+mod laws;
 mod lay;
 mod literals;
 mod names;
@@ -15,6 +16,7 @@ mod start;
 
 pub use body::Body;
 pub use fault::BodyFault;
+pub use laws::code_has_its_shape;
 pub use lay::lay_out;
 pub use literals::{
     Literal, above, greater, has_reference, jump_by, jump_by_null, jump_by_zero, jump_where,
