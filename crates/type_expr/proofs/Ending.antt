@@ -1,5 +1,5 @@
 -- What is answered of an expression whose value is wanted, by its first fault.
-use Rattle.std.proofs.Common.{◌≡◌, Bool, true, false, Option, Some, None, refl, sym, ap, ◌∙◌, subst}
+use Rattle.std.proofs.Common.{◌≡◌, Option, Some, None, refl, sym, ap, ◌∙◌, subst}
 use Rattle.std.specs.Prelude.{IsTrue}
 use Rattle.jp_ast.specs.declared.expr.Expr.{Expr}
 use Rattle.jp_meaning.specs.declared.expr.TypedExpr.{TypedExpr}

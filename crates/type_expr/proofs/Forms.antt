@@ -1,5 +1,5 @@
 -- What is seen of an expression of each form, from what is seen of its parts and how its node is settled.
-use Rattle.std.proofs.Common.{◌≡◌, ℕ, List, [], ◌++◌, Bool, Option, Some, None, refl, sym, ap, ◌∙◌, subst}
+use Rattle.std.proofs.Common.{◌≡◌, ℕ, List, Bool, Option, Some, None, refl, sym, ap, ◌∙◌, subst}
 use Rattle.std.specs.Prelude.{Result, IfOk}
 use Rattle.std.proofs.lemmas.Result.{IfOk-weaker}
 use Rattle.jp_ast.specs.declared.expr.Expr.{Expr}
@@ -15,7 +15,7 @@ use Rattle.type_rules.specs.declared.seen.Role.{Role}
 use Rattle.type_rules.specs.declared.seen.Role.TheVariants as role
 use Rattle.type_rules.specs.declared.seen.Seen.{Seen}
 use Rattle.type_rules.specs.Nodes.{ExprNode}
-use Rattle.type_rules.specs.Expressions.{Parts, behind, argument_of, value, part_of, part}
+use Rattle.type_rules.specs.Expressions.{behind, argument_of, value, part}
 use Rattle.type_expr.specs.Resolving.{null_value}
 use Rattle.type_expr.specs.Settling.{Settles, Sees, SeesAll, parts_in}
 use Rattle.type_expr.proofs.Walks.{spot, settles_truth, settles_null, part_number, part_truth, part_null, part_text, part_this, part_name, part_unary, part_binary, part_choice, part_cast, part_instance, part_field, part_element, part_call, part_super, part_new, part_new_array}

@@ -1,9 +1,5 @@
 -- An expression is seen as its node is settled, once its parts are seen.
-use Rattle.std.proofs.Common.{◌≡◌, ℕ, List, [], ◌∷◌, ◌++◌, map, length, Bool, true, false, cond, Option, Some, None, refl, sym, ap, ◌∙◌, subst, append-nil}
-use Rattle.std.specs.List.{flat_map}
-use Rattle.std.specs.Option.{option_map, option_map_or}
-use Rattle.std.proofs.lemmas.List.{map-append}
-use Rattle.std.proofs.lemmas.Grind.{flat_map-append}
+use Rattle.std.proofs.Common.{◌≡◌, ℕ, List, [], ◌∷◌, Bool, cond, Option, Some, None, refl, sym, ap, ◌∙◌, append-nil}
 use Rattle.jp_ast.specs.declared.token.Place.{Place}
 use Rattle.jp_ast.specs.declared.expr.Expr.{Expr}
 use Rattle.jp_ast.specs.declared.expr.ExprKind.{ExprKind}
@@ -19,16 +15,16 @@ use Rattle.type_rules.specs.declared.seen.Role.{Role}
 use Rattle.type_rules.specs.declared.seen.Role.TheVariants as role
 use Rattle.type_rules.specs.declared.seen.Seen.{Seen}
 use Rattle.type_rules.specs.declared.seen.Seen.TheVariants as seen
-use Rattle.type_rules.specs.Nodes.{ExprNode, AtExpr, Visit}
+use Rattle.type_rules.specs.Nodes.{ExprNode, AtExpr}
 use Rattle.type_rules.specs.Table.{own_faults, faults_of}
-use Rattle.type_rules.specs.Expressions.{Part, Parts, Layer, behind, argument_of, in_role, placed, seen_all, node_of, visits_all, visits_inside, value, resolved, part_of, part}
+use Rattle.type_rules.specs.Expressions.{Part, Parts, Layer, behind, argument_of, placed, node_of, visits_inside, value, resolved, part_of, part}
 use Rattle.type_rules.specs.Typing.{earlier}
 use Rattle.type_rules.proofs.Computing.{walk_number, walk_truth, walk_null, walk_text, walk_this, walk_name, walk_sign, walk_binary, walk_choice, walk_cast, walk_instance, walk_field, walk_element, walk_call, walk_call_on, walk_call_super, walk_make, walk_make_array}
 use Rattle.type_heads.specs.Faults.{is_none_of}
 use Rattle.type_heads.proofs.FaultLists.{then_faults}
 use Rattle.type_expr.specs.declared.spot.Spot.{Spot}
 use Rattle.type_expr.specs.Resolving.{null_value}
-use Rattle.type_expr.specs.Settling.{faults_at, seen_at, Settles, Sees, SeesAll, parts_in}
+use Rattle.type_expr.specs.Settling.{faults_at, seen_at, Settles, Sees, parts_in}
 
 -- ONE NODE
 
