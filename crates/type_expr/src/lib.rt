@@ -23,6 +23,3 @@ mod values;
 pub use expressions::{see, see_all};
 pub use objects::cant_construct;
 pub use typing::type_of;
-
-#[cfg(test)]
-mod tests;

@@ -32,6 +32,3 @@ pub use types::{
     is_reserved, is_unknown, is_void, same_type,
 };
 pub use under::{are_related, ascends, is_under};
-
-#[cfg(test)]
-mod tests;
