@@ -3,25 +3,21 @@ use Rattle.std.proofs.Common.{◌≡◌, ℕ, ◌+◌, ◌<◌, List, [], ◌∷
 use Rattle.std.specs.Prelude.{◌&&◌, ◌||◌, is_some, is_none, if◌then◌else◌}
 use Rattle.std.specs.Option.{option_map_or}
 use Rattle.std.proofs.lemmas.List.{at_drop_more}
-use Rattle.jp_pred.specs.Kinds.{is_reference}
 use Rattle.jp_pred.specs.Names.{Word}
 use Rattle.jp_ast.specs.declared.token.Place.{Place}
 use Rattle.jp_ast.specs.declared.guard.PathText.{PathText}
-use Rattle.jp_ast.specs.declared.guard.Summand.{Summand}
 use Rattle.jp_meaning.specs.declared.guard.TypedPath.{TypedPath}
 use Rattle.type_rules.specs.declared.fault.TypeFault.{TypeFault}
 use Rattle.type_rules.specs.declared.guard_scope.GuardScope.{GuardScope}
-use Rattle.type_rules.specs.Types.{is_int, is_boolean, is_named, is_reserved, is_among}
+use Rattle.type_rules.specs.Types.{is_int, is_named, is_reserved, is_among}
 use Rattle.type_rules.specs.GuardPaths.{root_of, step_of, steps_of, path_of, isnt_path, guard_names}
 use Rattle.type_rules.specs.RulesOfGuards.{is_this, excludes}
-use Rattle.type_rules.specs.RulesOfExpressions.{is_too_large}
-use Rattle.type_rules.specs.Nodes.{Node, AtPath, AtAtom, AtSummand, TestsClass, NamesPath, TestsNull, Stands}
-use Rattle.type_rules.specs.Table.{fault_if, own_faults}
+use Rattle.type_rules.specs.Nodes.{AtPath, AtAtom, TestsClass}
+use Rattle.type_rules.specs.Table.{fault_if}
 use Rattle.type_rules.specs.Typing.{earlier}
 use Rattle.type_heads.specs.Faults.{is_none_of}
 use Rattle.type_heads.proofs.FaultLists.{earlier_append}
-use Rattle.type_guards.specs.Finding.{faults_at, unless_faulty, FindsPath, LooksAt}
-use Rattle.type_guards.specs.Summands.{LooksAtSummand}
+use Rattle.type_guards.specs.Finding.{faults_at, FindsPath, LooksAt}
 
 -- LISTS
 
@@ -47,19 +43,6 @@ and_false false = refl
 
 -- ATOMS
 
-stands_faults : (p : Place) (c : GuardScope) (found : Option TypedPath) → faults_at p (AtAtom c (Stands found)) ≡ fault_if p 19 (isnt_path is_boolean found)
-unfolding faults_at
-stands_faults p c found = append-nil (fault_if p 19 (isnt_path is_boolean found))
-
-null_faults : (p : Place) (c : GuardScope) (found : Option TypedPath) → faults_at p (AtAtom c (TestsNull found)) ≡ fault_if p 17 (isnt_path is_reference found)
-unfolding faults_at
-null_faults p c found = append-nil (fault_if p 17 (isnt_path is_reference found))
-
-alias_faults : (p : Place) (c : GuardScope) (found : Option TypedPath) (name : Word) →
-    faults_at p (AtAtom c (NamesPath found name)) ≡ fault_if p 12 (is_among name (guard_names c)) ++ fault_if p 20 (not c.is_outermost)
-unfolding faults_at
-alias_faults p c found name = ap (λ (fs : List TypeFault). fault_if p 12 (is_among name (guard_names c)) ++ fs) (append-nil (fault_if p 20 (not c.is_outermost)))
-
 -- the rules that a test may break
 abbrev pub test_faults : Place → Bool → Bool → Bool → Bool → Bool → List TypeFault
 test_faults p a b d e f = fault_if p 2 a ++ (fault_if p 12 b ++ (fault_if p 15 d ++ (fault_if p 16 e ++ fault_if p 20 f)))
@@ -72,34 +55,6 @@ is_faults p c found class alias =
     ap (λ (fs : List TypeFault). fault_if p 2 (is_reserved class) ++ (fault_if p 12 (option_map_or (λ name. is_among name (guard_names c)) alias false)
     ++ (fault_if p 15 (isnt_path is_named found || option_map_or is_this found false) ++ (fault_if p 16 (option_map_or (λ t. excludes c.heads class t.ty) found false) ++ fs))))
     (append-nil (fault_if p 20 (is_some alias && not c.is_outermost)))
-
--- one rule that an atom may break
-looks_at_one : (p : Place) (n : ℕ) (b : Bool) (fs : List TypeFault) (old new : Option TypeFault) (kept : Bool) → fs ≡ fault_if p n b → new ≡ earlier old (fault_if p n b) → kept ≡ not b →
-    (kept ≡ is_none_of fs) × (new ≡ earlier old fs)
-looks_at_one p n b fs old new kept e f k = (k ∙ (sym (none_one p n b) ∙ ap is_none_of (sym e)), f ∙ ap (earlier old) (sym e))
-
-pub looks_stands : (p : Place) (c : GuardScope) (found : Option TypedPath) (old new : Option TypeFault) (kept : Bool) →
-    new ≡ earlier old (fault_if p 19 (isnt_path is_boolean found)) → kept ≡ not (isnt_path is_boolean found) → LooksAt c p (Stands found) old new kept
-looks_stands p c found old new kept f k =
-    let both = looks_at_one p 19 (isnt_path is_boolean found) (faults_at p (AtAtom c (Stands found))) old new kept (stands_faults p c found) f k in
-    record { sound = both.0; first = both.1 }
-
-pub looks_null : (p : Place) (c : GuardScope) (found : Option TypedPath) (old new : Option TypeFault) (kept : Bool) →
-    new ≡ earlier old (fault_if p 17 (isnt_path is_reference found)) → kept ≡ not (isnt_path is_reference found) → LooksAt c p (TestsNull found) old new kept
-looks_null p c found old new kept f k =
-    let both = looks_at_one p 17 (isnt_path is_reference found) (faults_at p (AtAtom c (TestsNull found))) old new kept (null_faults p c found) f k in
-    record { sound = both.0; first = both.1 }
-
-pub looks_alias : (p : Place) (c : GuardScope) (found : Option TypedPath) (name : Word) (old mid new : Option TypeFault) (kept : Bool) →
-    mid ≡ earlier old (fault_if p 12 (is_among name (guard_names c))) → new ≡ earlier mid (fault_if p 20 (not c.is_outermost)) →
-    kept ≡ (not (is_among name (guard_names c)) && not (not c.is_outermost)) → LooksAt c p (NamesPath found name) old new kept
-looks_alias p c found name old mid new kept f g k =
-    let a : Bool = is_among name (guard_names c) in
-    let b : Bool = not c.is_outermost in
-    record {
-      sound = k ∙ (ap (λ (t : Bool). not a && t) (sym (none_one p 20 b)) ∙ (sym (none_more p 12 a (fault_if p 20 b)) ∙ ap is_none_of (sym (alias_faults p c found name))));
-      first = first_more p 12 a (fault_if p 20 b) old mid new f g ∙ ap (earlier old) (sym (alias_faults p c found name));
-    }
 
 none_test : (p : Place) (a b d e f : Bool) → is_none_of (test_faults p a b d e f) ≡ (not a && (not b && (not d && (not e && not f))))
 none_test p a b d e f =
@@ -119,19 +74,6 @@ looks_test p c found class alias a b d e f old one two three four new kept ha hb
       sound = k ∙ (and_five (not a) (not b) (not d) (not e) (not f) ∙ (sym (none_test p a b d e f) ∙ ap is_none_of all));
       first = first_more p 2 a _ old one new h1 (first_more p 12 b _ one two new h2 (first_more p 15 d _ two three new h3 (first_more p 16 e _ three four new h4 h5))) ∙ ap (earlier old) all;
     }
-
--- SUMMANDS
-
-number_faults : (x : Summand) → faults_at x.place (AtSummand x) ≡ fault_if x.place 21 (option_map_or (λ n. is_too_large n.0 n.1) x.factor false && not x.negative)
-unfolding faults_at
-number_faults x = append-nil (fault_if x.place 21 (option_map_or (λ n. is_too_large n.0 n.1) x.factor false && not x.negative))
-
-pub looks_number : (x : Summand) (old new : Option TypeFault) (kept : Bool) →
-    new ≡ earlier old (fault_if x.place 21 (option_map_or (λ n. is_too_large n.0 n.1) x.factor false && not x.negative)) →
-    kept ≡ not (option_map_or (λ n. is_too_large n.0 n.1) x.factor false && not x.negative) → LooksAtSummand x old new kept
-looks_number x old new kept f k =
-    let both = looks_at_one x.place 21 (option_map_or (λ n. is_too_large n.0 n.1) x.factor false && not x.negative) (faults_at x.place (AtSummand x)) old new kept (number_faults x) f k in
-    record { sound = both.0; first = both.1 }
 
 -- PATHS
 

@@ -1,10 +1,10 @@
 -- A guard is walked, once its parts are walked one after the other.
-use Rattle.std.proofs.Common.{◌≡◌, ℕ, zero, suc, ◌+◌, ◌<◌, List, [], ◌∷◌, ◌++◌, take, drop, length, get_or, Bool, true, false, cond, Option, Some, None, refl, sym, ap, ◌∙◌, subst, append-nil, append_assoc}
-use Rattle.std.specs.Prelude.{if◌then◌else◌, Result, Ok, Err, IfOk, OnOk}
+use Rattle.std.proofs.Common.{◌≡◌, ℕ, ◌+◌, ◌<◌, List, [], ◌∷◌, ◌++◌, take, drop, length, get_or, Bool, true, false, cond, Option, Some, None, refl, sym, ap, ◌∙◌, append-nil}
+use Rattle.std.specs.Prelude.{Result, Ok, Err, IfOk, OnOk}
 use Rattle.std.specs.List.{flat_map}
 use Rattle.std.specs.Option.{option_map, option_map_or, option_and_then}
 use Rattle.std.proofs.lemmas.List.{at_drop_more}
-use Rattle.std.proofs.Math.Seq.{take-append_seam, drop-length}
+use Rattle.std.proofs.Math.Seq.{take-append_seam}
 use Rattle.jp_ast.specs.declared.token.Place.{Place}
 use Rattle.jp_ast.specs.declared.guard.GuardExpr.{GuardExpr}
 use Rattle.jp_ast.specs.declared.guard.GuardKind.{GuardKind}
@@ -12,9 +12,6 @@ use Rattle.jp_ast.specs.declared.guard.GuardKind.TheVariants as test
 use Rattle.jp_ast.specs.declared.guard.GuardKind.TheOpen as g
 use Rattle.jp_ast.specs.declared.guard.PathText.{PathText}
 use Rattle.jp_ast.specs.declared.guard.Summand.{Summand}
-use Rattle.jp_pred.specs.declared.ty.Ty.{Ty}
-use Rattle.jp_pred.specs.declared.ty.Ty.TheVariants as ty
-use Rattle.jp_pred.specs.declared.path.Path.{Path}
 use Rattle.jp_pred.specs.Names.{Word}
 use Rattle.jp_meaning.specs.declared.guard.TypedGuard.{TypedGuard}
 use Rattle.jp_meaning.specs.declared.guard.TypedGuardKind.{TypedGuardKind}
@@ -22,20 +19,17 @@ use Rattle.jp_meaning.specs.declared.guard.TypedGuardKind.TheVariants as made
 use Rattle.jp_meaning.specs.declared.guard.TypedPath.{TypedPath}
 use Rattle.jp_meaning.specs.declared.guard.TypedSummand.{TypedSummand}
 use Rattle.type_rules.specs.declared.fault.TypeFault.{TypeFault}
-use Rattle.type_rules.specs.declared.guard_scope.Alias.{Alias}
 use Rattle.type_rules.specs.declared.guard_scope.GuardScope.{GuardScope}
-use Rattle.type_rules.specs.declared.guard_scope.Narrowed.{Narrowed}
-use Rattle.type_rules.specs.Heads.{names_class}
 use Rattle.type_rules.specs.GuardPaths.{path_of}
-use Rattle.type_rules.specs.Nodes.{Node, AtomNode, TestsClass, NamesPath, TestsNull, Stands, AtPath, AtAtom, AtSummand, Visit}
+use Rattle.type_rules.specs.Nodes.{Node, AtomNode, TestsClass, NamesPath, TestsNull, Stands, AtPath, AtAtom, AtSummand}
 use Rattle.type_rules.specs.Table.{own_faults, faults_of}
-use Rattle.type_rules.specs.Guards.{Guarded, Step, unless_faulty as unless, path_in, summand_at, summand_path, summand_in, summand_visits, summands_in, inner, with_aliases, alias_at, aliased, tested, behind_test, scope_behind, atom_visit, visits_in, atom, both, test_alias, resolved, guard_at, guarded_of, guarded}
+use Rattle.type_rules.specs.Guards.{Guarded, Step, unless_faulty as unless, path_in, summand_at, summand_path, summand_in, summand_visits, summands_in, inner, with_aliases, aliased, tested, behind_test, scope_behind, atom_visit, visits_in, atom, both, test_alias, resolved, guard_at, guarded_of, guarded}
 use Rattle.type_rules.specs.Typing.{earlier}
-use Rattle.type_rules.proofs.Computing.{judge_given, judge_not, judge_and, judge_or, judge_is, judge_alias, judge_null_test, judge_flag, judge_compare}
+use Rattle.type_rules.proofs.Computing.{judge_and, judge_or, judge_is, judge_alias, judge_null_test, judge_flag}
 use Rattle.type_heads.specs.Faults.{is_none_of}
-use Rattle.type_heads.proofs.FaultLists.{earlier_append, then_faults}
+use Rattle.type_heads.proofs.FaultLists.{then_faults}
 use Rattle.type_guards.specs.Finding.{faults_at, unless_faulty}
-use Rattle.type_guards.specs.Atoms.{found_in, IsAtom, narrowed_if, named_if, scope_behind_test}
+use Rattle.type_guards.specs.Atoms.{found_in, IsAtom, named_if, scope_behind_test}
 use Rattle.type_guards.specs.Summands.{part_faults, part_in, FindsSummand, FindsSummands, with_summand}
 use Rattle.type_guards.specs.Walking.{Walks, Keeps, left_to, Compares, compared}
 
@@ -91,9 +85,6 @@ atom_first c p node path kind old new made h =
     two_visits path.place p (AtPath c false path) (AtAtom c (node (found_in c path))) old new h.first
     ∙ ap (λ (o : Option TypedPath). earlier old (faults_of (atom_visit c p (node o) path))) (found_is c path)
 
-pub walks_truth : (x : GuardExpr) (c : GuardScope) (old : Option TypeFault) (value : Bool) (result : Option TypedGuard) → x.kind ≡ test.Truth value → result ≡ Some (guard_at x.place (made.Truth value)) → Walks x c c old old result
-walks_truth x c old value result h m = by_layer x (g.Truth value) c c old old result (at_kind x _ (g.Truth value) h (judge_given guarded_of x.place value)) refl m refl
-
 pub walks_flag : (x : GuardExpr) (c : GuardScope) (path : PathText) (old new : Option TypeFault) (result : Option TypedGuard) → x.kind ≡ test.Flag path →
     IsAtom c x.place Stands path (λ t. made.Flag t) old new result → Walks x c c old new result
 walks_flag x c path old new result h a =
@@ -128,48 +119,7 @@ walks_test x c d path class alias old new result h a e =
     (atom_made c x.place (λ found. TestsClass found class alias) path (λ t. made.Is t class (test_alias class alias)) old new result a)
     (atom_first c x.place (λ found. TestsClass found class alias) path (λ t. made.Is t class (test_alias class alias)) old new result a)
 
-pub walks_compare : (x : GuardExpr) (c : GuardScope) (left : List Summand) (n : ℕ) (right : List Summand) (old new : Option TypeFault) (result : Option TypedGuard) → x.kind ≡ test.Compare left n right →
-    Compares c x.place left n right old new result → Walks x c c old new result
-walks_compare x c left n right old new result h a =
-    by_layer x (g.Compare left n right) c c old new result (at_kind x _ (g.Compare left n right) h (judge_compare guarded_of x.place left n right)) refl a.made_is a.first
-
 -- WHAT STAYS
-
-pub keeps_itself : (c : GuardScope) → Keeps c c
-keeps_itself c = record { heads = refl; class = refl; params = refl; outermost = refl; more = []; tests = sym (append-nil c.tests) }
-
-pub keeps_then : (c d f : GuardScope) → Keeps c d → Keeps d f → Keeps c f
-keeps_then c d f h k = record {
-  heads = k.heads ∙ h.heads;
-  class = k.class ∙ h.class;
-  params = k.params ∙ h.params;
-  outermost = k.outermost ∙ h.outermost;
-  more = h.more ++ k.more;
-  tests = k.tests ∙ (ap (λ ts. ts ++ k.more) h.tests ∙ append_assoc c.tests h.more k.more);
-}
-
-keeps_aliased : (c : GuardScope) (found : Option TypedPath) (name : Word) (t : Option Ty) → Keeps c (aliased c found name t)
-keeps_aliased c found name t = record { heads = refl; class = refl; params = refl; outermost = refl; more = []; tests = sym (append-nil c.tests) }
-
-pub keeps_alias : (c d : GuardScope) (found : Option TypedPath) (name : Word) (t : Option Ty) → d ≡ aliased c found name t → Keeps c d
-keeps_alias c d found name t e = subst (λ (z : GuardScope). Keeps c z) (sym e) (keeps_aliased c found name t)
-
-keeps_if : (c : GuardScope) (b : Bool) (path : Path) (class : Word) → Keeps c (if b then record c { tests = c.tests ++ record { path = path; class = class } ∷ [] } else c)
-keeps_if c true path class = record { heads = refl; class = refl; params = refl; outermost = refl; more = record { path = path; class = class } ∷ []; tests = refl }
-keeps_if c false path class = keeps_itself c
-
-keeps_narrowed : (c : GuardScope) (kept : Option TypedPath) (class : Word) → Keeps c (option_map_or (λ t. tested c t.path class) kept c)
-keeps_narrowed c None class = keeps_itself c
-keeps_narrowed c (Some t) class = keeps_if c (names_class c.heads class) t.path class
-
-keeps_named : (c : GuardScope) (found : Option TypedPath) (class : Word) (alias : Option Word) → Keeps c (named_if c found class alias)
-keeps_named c found class None = keeps_itself c
-keeps_named c found class (Some name) = keeps_aliased c found name (Some (ty.Class class))
-
-pub keeps_test : (c d : GuardScope) (p : Place) (path : PathText) (class : Word) (alias : Option Word) → d ≡ scope_behind_test c p path class alias → Keeps c d
-keeps_test c d p path class alias e =
-    let n : GuardScope = narrowed_if (is_none_of (faults_at p (AtAtom c (TestsClass (found_in c path) class alias)))) c (found_in c path) class in
-    subst (λ (z : GuardScope). Keeps c z) (sym e) (keeps_then c n (named_if n (found_in c path) class alias) (keeps_narrowed c _ class) (keeps_named n (found_in c path) class alias))
 
 -- INSIDE AND OUTSIDE
 
@@ -188,13 +138,6 @@ keeps_outside c d b h e = record {
   more = [];
   tests = ap (λ (z : GuardScope). z.tests) e ∙ sym (append-nil c.tests);
 }
-
-pub walks_not : (x y : GuardExpr) (c d z : GuardScope) (mark : ℕ) (b : Bool) (old new : Option TypeFault) (part result : Option TypedGuard) → x.kind ≡ test.Not y → mark ≡ length c.tests → b ≡ c.is_outermost →
-    Walks y (inner c) d old new part → Keeps (inner c) d → z ≡ left_to d mark b → result ≡ option_map (guard_at x.place) (option_map (λ r. made.Not r) part) → Walks x c z old new result
-walks_not x y c d z mark b old new part result h m o w k e r =
-    by_layer x (g.Not (guarded y)) c z old new result (at_kind x _ (g.Not (guarded y)) h (judge_not guarded_of x.place y))
-    (outside (inner c) d mark b z m k e ∙ ((λ i. record c { aliases = d.aliases; is_outermost = o i }) ∙ ap (λ (f : GuardScope). with_aliases c f.aliases) w.after))
-    (r ∙ ap (λ p. option_map (guard_at x.place) (option_map (λ r. made.Not r) p)) w.made_is) w.first
 
 pub walks_and : (x y z : GuardExpr) (c d f : GuardScope) (old mid new : Option TypeFault) (left right result : Option TypedGuard) → x.kind ≡ test.And y z → Walks y c d old mid left → Walks z d f mid new right →
     result ≡ option_map (guard_at x.place) (both (λ l r. made.And l r) left right) → Walks x c f old new result
@@ -276,15 +219,6 @@ pub next_first : (c : GuardScope) (xs : List Summand) (i : ℕ) (x : Summand) (f
 next_first c xs i x found old new l e h =
     then_faults old new _ (summand_visits c x) (flat_map (summand_visits c) (drop (i + 1) xs)) (summand_first c x old new found h) refl
     ∙ ap (λ ys. earlier old (faults_of (flat_map (summand_visits c) ys))) (sym (at_place xs i x l e))
-
-pub all_made : (c : GuardScope) (xs : List Summand) (i : ℕ) (done : Option (List TypedSummand)) → i ≡ length xs → done ≡ option_and_then (λ ts. summands_in c ts (drop i xs)) done
-all_made c xs i done e = same done ∙ ap (λ ys. option_and_then (λ ts. summands_in c ts ys) done) (sym (ap (λ (j : ℕ). drop j xs) e ∙ drop-length xs)) where
-  same : (o : Option (List TypedSummand)) → o ≡ option_and_then (λ ts. Some ts) o
-  same None = refl
-  same (Some ts) = refl
-
-pub all_first : (c : GuardScope) (xs : List Summand) (i : ℕ) (old : Option TypeFault) → i ≡ length xs → old ≡ earlier old (faults_of (flat_map (summand_visits c) (drop i xs)))
-all_first c xs i old e = ap (λ ys. earlier old (faults_of (flat_map (summand_visits c) ys))) (sym (ap (λ (j : ℕ). drop j xs) e ∙ drop-length xs))
 
 -- the two sides of a comparison, one after the other
 pub compares_sides : (c : GuardScope) (p : Place) (left : List Summand) (n : ℕ) (right : List Summand) (old mid new : Option TypeFault) (l r : Option (List TypedSummand)) (result : Option TypedGuard) →

@@ -2,7 +2,6 @@
 use Rattle.std.specs.Prelude.{◌≡◌, List, Bool, false, Option, None, if◌then◌else◌}
 use Rattle.jp_ast.specs.declared.token.Place.{Place}
 use Rattle.jp_ast.specs.declared.guard.PathText.{PathText}
-use Rattle.jp_ast.specs.declared.guard.Summand.{Summand}
 use Rattle.jp_pred.specs.declared.ty.Ty.{Ty}
 use Rattle.jp_pred.specs.declared.ty.Ty.TheVariants as ty
 use Rattle.jp_pred.specs.Names.{Word}

@@ -1,4 +1,4 @@
-use Rattle.std.proofs.Common.{◌≡◌, sym, subst, ◌∙◌}
+use Rattle.std.proofs.Common.{sym, subst, ◌∙◌}
 use Rattle.std.proofs.lemmas.Result.{IfOk-weaker, on_ok_weaker}
 use Rattle.jp_ast.specs.declared.guard.GuardKind.TheVariants as test
 use Rattle.type_rules.specs.declared.guard_scope.GuardScope.{GuardScope}
