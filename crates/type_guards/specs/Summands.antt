@@ -26,10 +26,12 @@ abbrev pub part_in : GuardScope → Option PathText → Option (Option TypedPath
 part_in c None = Some None
 part_in c (Some path) = option_map Some (unless_faulty path.place (AtPath c true path) (path_of c path))
 
+-- The path of a summand is looked at, where it has one: the resolved one, and the first fault so far, with its own
 pub record FindsPart (c : GuardScope) (text : Option PathText) (old new : Option TypeFault) (found : Option (Option TypedPath)) : Type 0 where
   pub part_is : found ≡ part_in c text
   pub first : new ≡ earlier old (part_faults c text)
 
+-- The number of a summand is looked at: whether it breaks no rule, and the first fault so far, with its own
 pub record LooksAtSummand (x : Summand) (old new : Option TypeFault) (kept : Bool) : Type 0 where
   pub sound : kept ≡ is_none_of (faults_at x.place (AtSummand x))
   pub first : new ≡ earlier old (faults_at x.place (AtSummand x))
