@@ -7,5 +7,6 @@ pub mod LineLengths
 pub mod Reach
 pub mod Sorted
 pub mod Found
+pub mod Stable
 pub mod Growth
 pub mod Placed

@@ -7,7 +7,7 @@ ghost use Rattle.jvm_load.specs.Lines.{lines_of};
 ghost use Rattle.jvm_load.specs.Loadable.{IsLoadable};
 ghost use Rattle.jvm_load.specs.declared.tables.TableEntry.{TableEntry as Entry};
 ghost use Rattle.jvm_load.specs.declared.tables.Listing.TheVariants.{OfClasses, OfMethods, OfFields};
-ghost use Rattle.jvm_load.specs.Tables.{key_of, key_cmp, key_text, keys_at, entries_at, first_entry, first_with, found_above, Rises, IsTable, IsAt, IsGap, AreTables};
+ghost use Rattle.jvm_load.specs.Tables.{Key, key_of, key_cmp, key_text, keys_at, entries_at, first_entry, first_with, found_above, Rises, IsTable, IsAt, IsGap, AreTables};
 
 use crate::names::{name_of, text};
 use crate::program::Positions;
@@ -133,6 +133,12 @@ fn compare_keys(a: KeyText<'_>, b: KeyText<'_>) -> Ordering
     }
 }
 
+fn compare_entries(listing: Listing, files: &[ClassFile], a: TableEntry, b: TableEntry) -> Ordering
+    ensures { result ≡ key_cmp (key_of listing files.now a) (key_of listing files.now b) }
+{
+    compare_keys(key_at(listing, files, a), key_at(listing, files, b))
+}
+
 // Where the entry of a key stands in a table, by bisection, or where one would go.
 pub(crate) fn bisect(
     listing: Listing,
@@ -211,6 +217,18 @@ fn entries_of(
     Ok(entries)
 }
 
+// Puts entries in the order of their keys; those of one key stay in their order.
+fn order_entries(
+    listing: Listing,
+    files: &[ClassFile],
+    entries: &mut Vec<TableEntry>,
+) -> Result<(), AllocError>
+    ensures { (wanted : Key) → first_with (key_of listing files.now) entries.new.items wanted
+        ≡ first_with (key_of listing files.now) entries.old.items wanted }
+{
+    entries.sort_by(|a, b| compare_entries(listing, files, *a, *b))
+}
+
 // Adds an entry at its place, if there is none of its key.
 fn add_entry(
     table: &mut Vec<TableEntry>,
@@ -256,7 +274,9 @@ pub(crate) fn table_of(
     requires { IsLoadable files.now }
     ensures { IfOk result (λ table. IsTable key_cmp (key_of listing files.now) (first_entry listing files.now line.now) table) }
 {
-    let entries = entries_of(alloc, listing, files, line)?;
+    let mut entries = entries_of(alloc, listing, files, line)?;
+    // In order, each goes to the table's end.
+    order_entries(listing, files, &mut entries)?;
     Ok(Table::new(sort_entries(alloc, listing, files, entries.as_slice())?))
 }
 
