@@ -18,6 +18,7 @@ pub mod NameAlone
 pub mod Narrow
 pub mod Operands
 pub mod Positions
+pub mod Postfixes
 pub mod Rules
 pub mod Runs
 pub mod Signs

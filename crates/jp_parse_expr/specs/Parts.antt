@@ -10,10 +10,10 @@ use Rattle.jp_ast.specs.declared.sign.TheConstants as sign
 use Rattle.jp_grammar.specs.declared.fault.ParseFault.{ParseFault}
 use Rattle.jp_grammar.specs.Kinds.{Tokens, IsSign}
 use Rattle.jp_grammar.specs.Trees.{array_at}
-use Rattle.jp_grammar.specs.Expressions.{Expression, Steps, NoBracket}
+use Rattle.jp_grammar.specs.Expressions.{Expression, Postfix, Args, Steps, NoBracket}
 use Rattle.jp_grammar.specs.Guards.{Guard}
-use Rattle.jp_grammar.specs.Depth.{depth, guard_depth}
-use Rattle.jp_grammar.specs.Behind.{ends_full, ends_level}
+use Rattle.jp_grammar.specs.Depth.{depth, depth_of_all, guard_depth}
+use Rattle.jp_grammar.specs.Behind.{ends_full, ends_level, ends_primary}
 use Rattle.jp_grammar.specs.Reading.{Reads, Found, FailsWithin, Gives}
 use Rattle.jp_parse_expr.specs.BehindGuards.{ends_guard}
 
@@ -40,6 +40,18 @@ ArraySteps at l xs t zs = NoBracket xs × Steps at l xs t zs
 abbrev pub ParsesExpr : Tokens → ℕ → Result (Expr × ℕ) ParseFault → Type 0
 ParsesExpr tokens at (Ok x) = Found Expression (λ _. ends_full) (drop at tokens) x.0 (drop x.1 tokens) × (depth x.0 ≤ 200) × (x.1 < length tokens)
 ParsesExpr tokens at (Err e) = FailsWithin Expression depth ends_full 200 (drop at tokens) e
+
+-- An operand without a sign or a cast in front stands at the place, with all the steps behind it, and it is at most 200
+-- deep. The second place is the one behind it. Else the first token with which no such operand goes on.
+abbrev pub ParsesPostfix : Tokens → ℕ → Result (Expr × ℕ) ParseFault → Type 0
+ParsesPostfix tokens at (Ok x) = Found Postfix (λ _. ends_level 0) (drop at tokens) x.0 (drop x.1 tokens) × (depth x.0 ≤ 200) × (x.1 < length tokens)
+ParsesPostfix tokens at (Err e) = FailsWithin Postfix depth (ends_level 0) 200 (drop at tokens) e
+
+-- Arguments and their `)` stand at the place, and they are at most 200 deep. The second place is the one behind. Else
+-- the first token with which no such arguments go on.
+abbrev pub ParsesArgs : Tokens → ℕ → Result (List Expr × ℕ) ParseFault → Type 0
+ParsesArgs tokens at (Ok x) = Found Args (λ _. ends_primary) (drop at tokens) x.0 (drop x.1 tokens) × (depth_of_all x.0 ≤ 200) × (x.1 < length tokens)
+ParsesArgs tokens at (Err e) = FailsWithin Args depth_of_all ends_primary 200 (drop at tokens) e
 
 -- A guard stands at the place, with nothing else to be read there, and it is at most 200 deep. The second place is the
 -- one behind it. Else the first token with which no such guard goes on.

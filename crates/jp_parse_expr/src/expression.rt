@@ -10,7 +10,7 @@ ghost use Rattle.jp_grammar.specs.Reading.{Gives, Found, IsText, IsRest};
 ghost use Rattle.jp_grammar.specs.Trees.{named_at};
 ghost use Rattle.jp_parse_expr.specs.Ahead.{is_cast, Opens};
 ghost use Rattle.jp_parse_expr.specs.Literals.{Single};
-ghost use Rattle.jp_parse_expr.specs.Parts.{Continues, IsStep, ParsesExpr};
+ghost use Rattle.jp_parse_expr.specs.Parts.{Continues, IsStep, ParsesArgs, ParsesExpr, ParsesPostfix};
 
 use crate::ahead::{begins_expr, binds, is_prefix, is_step, opened};
 use crate::token::{deeper, expect, literal, node};
@@ -35,6 +35,83 @@ pub fn parse_expr(alloc: Global, tokens: &[Token], at: usize) -> Result<(Expr, u
 {
     let (tree, _, rest) = full(alloc, &tokens[at..], MOST)?;
     Ok((tree.into_inner(), tokens.len() - rest.len()))
+}
+
+/// The operand without a sign or a cast in front that begins at the token `at`, with all steps behind it, and the
+/// position of the token behind it.
+///
+/// It is `Unexpected` where no such operand goes on with a token, `Outside` where that token is a word without use in
+/// the language, and `TooDeep` where only operands more than 200 deep go on with it; the place is that of the first
+/// such token. It is `OutOfMemory` where memory is wanting.
+pub fn parse_postfix(
+    alloc: Global,
+    tokens: &[Token],
+    at: usize,
+) -> Result<(Expr, usize), ParseFault>
+    requires text { IsText tokens.now }
+    requires at { at < length tokens.now }
+    ensures { ParsesPostfix tokens.now at result }
+{
+    let (tree, _, rest) = stepped(alloc, &tokens[at..], MOST)?;
+    Ok((tree.into_inner(), tokens.len() - rest.len()))
+}
+
+/// The arguments that begin at the token `at`, which stands behind their `(`, and the position of the token behind
+/// their `)`.
+///
+/// It is `Unexpected` where no arguments go on with a token, `Outside` where that token is a word without use in the
+/// language, and `TooDeep` where only arguments more than 200 deep go on with it; the place is that of the first such
+/// token. It is `OutOfMemory` where memory is wanting.
+pub fn parse_args(
+    alloc: Global,
+    tokens: &[Token],
+    at: usize,
+) -> Result<(Items<Expr>, usize), ParseFault>
+    requires text { IsText tokens.now }
+    requires at { at < length tokens.now }
+    ensures { ParsesArgs tokens.now at result }
+{
+    let (list, _, rest) = args(alloc, &tokens[at..], MOST)?;
+    Ok((list, tokens.len() - rest.len()))
+}
+
+/// An operand without a sign or a cast in front, with all steps behind it.
+fn stepped(
+    alloc: Global,
+    tokens: &[Token],
+    most: u8,
+) -> Result<(Boxed<Expr>, u8, &[Token]), ParseFault>
+    requires text { IsText tokens.now }
+    requires room { 1 ≤ most }
+    ensures gives { Gives Postfix depth_of (ends_level 0) most tokens.now result }
+    ensures rest { IfOk result (λ x. IsRest tokens.now x.2.now) }
+{
+    let (first, rest) = front(tokens);
+    let Kind::Sign(sign) = kind_of(first) else {
+        return postfix(alloc, first, rest, most);
+    };
+    if sign != sign::OPEN_PAREN {
+        return Err(refused(alloc, first));
+    }
+    enclosed(alloc, first, rest, most)
+}
+
+/// An expression in parentheses, of which `first` is the first, with the steps behind it.
+fn enclosed<'a>(
+    alloc: Global,
+    first: &Token,
+    rest: &'a [Token],
+    most: u8,
+) -> Result<(Boxed<Expr>, u8, &'a [Token]), ParseFault>
+    requires text { IsText rest.now }
+    requires room { 1 ≤ most }
+    requires sign { IsSign sign.OPEN_PAREN first.now }
+    ensures gives { Gives Postfix depth_of (ends_level 0) most (first.now ∷ rest.now) result }
+    ensures rest { IfOk result (λ x. IsRest rest.now x.2.now) }
+{
+    let (inner, depth, behind) = full(alloc, rest, most)?;
+    let behind = expect(alloc, behind, sign::CLOSE_PAREN)?;
+    steps(alloc, first.place, inner, depth, behind, most)
 }
 
 /// An expression.

@@ -9,7 +9,7 @@ mod path;
 mod sum;
 mod token;
 
-pub use expression::parse_expr;
+pub use expression::{parse_args, parse_expr, parse_postfix};
 pub use guard::parse_guard;
 
 #[cfg(test)]
