@@ -1,0 +1,12 @@
+//! Reads statements and their parts from tokens.
+#![tactic(auto)]
+
+mod change;
+mod part;
+mod types;
+
+pub use change::parse_change;
+pub use types::parse_type;
+
+#[cfg(test)]
+mod tests;
