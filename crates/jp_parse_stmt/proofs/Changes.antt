@@ -185,10 +185,10 @@ changed_into xs ys zs left t at place p (assigned {right = r} {b = b} h i e) = s
 changed_into xs ys zs left t at place p (bumped {up = up} h) = subst (λ (x : Place). Change xs (stmt_at x (made.Bump left up)) zs) (sym place) (bump p h)
 changed_into xs ys zs left t at place p ran = subst (λ (x : Place). Change xs (stmt_at x (made.Run left)) zs) (sym place) (run p)
 
-abbrev Whole : Reads Stmt
+abbrev pub Whole : Reads Stmt
 Whole = Then (Placed Postfix) (λ x. Changed x.0 x.1)
 
-changed_from : (xs zs : Tokens) (t : Stmt) → Change xs t zs → Whole xs t zs
+pub changed_from : (xs zs : Tokens) (t : Stmt) → Change xs t zs → Whole xs t zs
 changed_from xs zs t (assign {left = left} p h i e) = ((place_of xs, left), _, (refl, p), assigned h i e)
 changed_from xs zs t (bump {left = left} p h) = ((place_of xs, left), _, (refl, p), bumped h)
 changed_from xs zs t (run {e = left} p) = ((place_of xs, left), _, (refl, p), ran)
@@ -205,7 +205,7 @@ bump_starts : (up : Bool) (s : Token) → IsBump up s → IsTrue (ends_level 0 s
 bump_starts true s h = ap (ends_kind 0) h
 bump_starts false s h = ap (ends_kind 0) h
 
-changed_starts : (at : Place) (left : Expr) (ys zs : Tokens) (t : Stmt) → Changed at left ys t zs → Ends ends_change zs → Ends (ends_level 0) ys
+pub changed_starts : (at : Place) (left : Expr) (ys zs : Tokens) (t : Stmt) → Changed at left ys t zs → Ends ends_change zs → Ends (ends_level 0) ys
 changed_starts at left ys zs t (assigned {b = b} {s = s} h i r) e = ap (ends_kind 0) h ∙ behind_level 0 (k.Sign b) (assignment_behind b i)
 changed_starts at left ys zs t (bumped {up = up} {s = s} h) e = bump_starts up s h
 changed_starts at left ys zs t ran e = change_level zs e

@@ -1,6 +1,8 @@
 pub mod Branches
 pub mod Changes
 pub mod Endings
+pub mod LocalLines
+pub mod LocalTokens
 pub mod Sealing
 pub mod Steps
 pub mod Texts

@@ -1,3 +1,4 @@
 pub mod Behind
+pub mod Locals
 pub mod Parses
 pub mod Parts

@@ -186,7 +186,7 @@ fn the_first_fault_of_a_change_is_told(rt: HostRuntime) -> Result<(), Fail> {
             (";", ('u', 1)),
             ("-a;", ('u', 1)),
             ("X", ('o', 1)),
-            ("(a)b", ('u', 4)),
+            ("(a b", ('u', 3)),
             ("a=", ('u', 3)),
             ("a=;", ('u', 3)),
             ("a=1+X", ('o', 5)),
