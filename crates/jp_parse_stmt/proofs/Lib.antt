@@ -1,6 +1,7 @@
 pub mod Branches
 pub mod Changes
 pub mod Endings
+pub mod Inits
 pub mod LocalLines
 pub mod LocalTokens
 pub mod Sealing

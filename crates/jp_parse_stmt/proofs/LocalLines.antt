@@ -104,10 +104,10 @@ valued_from at x s xs zs t (valued {value = v} h r) = (v, refl, r)
 valued_never : (at : Place) (x : Ty × List ℕ) (s : Token) (xs zs : Tokens) (t : Stmt) → (IsSign sign.ASSIGN s → ⊥) → Valued at x (s ∷ xs) t zs → ⊥
 valued_never at x s xs zs t other (valued h r) = other h
 
-zero_shut : (zs : Tokens) → Shut sign.SEMICOLON Expression (a_number ∷ a_sign sign.SEMICOLON ∷ zs) zero_expr zs
+pub zero_shut : (zs : Tokens) → Shut sign.SEMICOLON Expression (a_number ∷ a_sign sign.SEMICOLON ∷ zs) zero_expr zs
 zero_shut zs = (zero_expr, a_sign sign.SEMICOLON ∷ zs, expression_number (a_sign sign.SEMICOLON ∷ zs), (refl, refl, refl))
 
-zero_small : (at : Place) (x : Ty × List ℕ) → deepest (stmt_at at (made.Local x.0 x.1 (Some zero_expr))) ≤ 200
+pub zero_small : (at : Place) (x : Ty × List ℕ) → deepest (stmt_at at (made.Local x.0 x.1 (Some zero_expr))) ≤ 200
 zero_small at x = let d = deepest_local at x.0 x.1 (Some zero_expr) in let n : depth zero_expr ≡ 1 = depth_number nowhere 0 false in omega (arith, d, n)
 
 none_small : (at : Place) (t : Ty) (n : List ℕ) → deepest (stmt_at at (made.Local t n None)) ≤ 200
@@ -202,14 +202,14 @@ line_joint = record {
   closed = λ a zs e. (stmt_at a.0 (made.Local a.1.0 a.1.1 None), no_value refl, λ p. none_small a.0 a.1.0 a.1.1);
 }
 
-type_solid : (t : Ty) (xs ys : Tokens) → OneType xs t ys → length ys < length xs
+pub type_solid : (t : Ty) (xs ys : Tokens) → OneType xs t ys → length ys < length xs
 type_solid t xs ys (element_type i) = omega arith
 type_solid t xs ys (array_type elem i o p) = omega arith
 
 named_less : (t : Ty) (x : Ty × List ℕ) (ys zs : Tokens) → NameOf t ys x zs → length zs < length ys
 named_less t x ys zs (name_of n) = omega arith
 
-head_solid : (xs : Tokens) (x : Ty × List ℕ) → Head xs x xs → ⊥
+pub head_solid : (xs : Tokens) (x : Ty × List ℕ) → Head xs x xs → ⊥
 head_solid xs x r = let a = type_solid r.0 xs r.1 r.2 in let b = named_less r.0 x r.1 xs r.3 in absurd (omega (arith, a, b))
 
 pub line_fails : (xs : Tokens) (e : ParseFault) → Fails Head (λ _. anything) anything Any xs e → Fails LocalLine (λ _. anything) anything Shallow xs e
@@ -234,7 +234,7 @@ change_from xs zs t (inl r) d = let e = line_local xs zs t r in cc
 change_from xs zs t (inr r) d = r
 
 -- what goes on with the tokens
-abbrev GoesOn : Reads Stmt → Tokens → Token → Type 0
+abbrev pub GoesOn : Reads Stmt → Tokens → Token → Type 0
 GoesOn R front next = (m : Tokens) × (zs : Tokens) × (t : Stmt) × R (front ++ next ∷ m) t zs × Ends anything zs × Shallow t
 
 line_on : (front : Tokens) (next : Token) → Untold front next → GoesOn LocalLine front next
@@ -253,7 +253,7 @@ line_on front next (inr u) =
     let r : LocalLine (a ∷ next ∷ a_sign sign.CLOSE_BRACKET ∷ tail) t zs = ((a.place, (ty.ClassArray w.0, 97 ∷ [])), a_sign sign.SEMICOLON ∷ zs, (refl, (ty.ClassArray w.0, tail, array_type (ty.Class w.0) w.1 u.3 refl, name_of a_name_is)), no_value refl) in
     (a_sign sign.CLOSE_BRACKET ∷ tail, zs, t, subst (λ (f : Tokens). LocalLine (f ++ next ∷ a_sign sign.CLOSE_BRACKET ∷ tail) t zs) (sym u.1) r, refl, none_small a.place (ty.ClassArray w.0) (97 ∷ []))
 
-change_on : (front : Tokens) (next : Token) → Untold front next → GoesOn (Shut sign.SEMICOLON Change) front next
+pub change_on : (front : Tokens) (next : Token) → Untold front next → GoesOn (Shut sign.SEMICOLON Change) front next
 change_on front next (inl u) =
     let w = name_token next u.1 in
     let left : Expr = named_at next.place None w.0 in
@@ -278,7 +278,7 @@ change_on front next (inr u) =
     let i = depth_index a.place (named_at a.place None w.0) zero_expr in
     (tail, zs, t, subst (λ (f : Tokens). Shut sign.SEMICOLON Change (f ++ next ∷ tail) t zs) (sym u.1) r, refl, omega (arith, d, n, z, i))
 
-open_line : (R : Reads Stmt) (b : Bool) → ((front : Tokens) (next : Token) → Untold front next → GoesOn R front next) → (front : Tokens) (next : Token) (more more' : Tokens) →
+pub open_line : (R : Reads Stmt) (b : Bool) → ((front : Tokens) (next : Token) → Untold front next → GoesOn R front next) → (front : Tokens) (next : Token) (more more' : Tokens) →
     begins_local (front ++ next ∷ more) ≡ b → (begins_local (front ++ next ∷ more') ≡ b → ⊥) → GoesOn R front next
 open_line R b on front next more more' same differs = elim (depends front next more more') [
   | inl e ↦ absurd (differs (sym e ∙ same))

@@ -59,6 +59,10 @@ pub data Declares : Place → Ty × List ℕ → Tokens → Stmt → Tokens → 
   no_value : {at : Place} {x : Ty × List ℕ} {p : Token} {zs : Tokens} → IsSign sign.SEMICOLON p → Declares at x (p ∷ zs) (stmt_at at (made.Local x.0 x.1 None)) zs
   some_value : {at : Place} {x : Ty × List ℕ} {t : Stmt} {xs zs : Tokens} → Valued at x xs t zs → Declares at x xs t zs
 
+-- type NAME "=" expr ";"
+abbrev pub ValuedLine : Reads Stmt
+ValuedLine xs t zs = (x : Place × (Ty × List ℕ)) × (ys : Tokens) × ((x.0 ≡ place_of xs) × Head xs x.1 ys) × Valued x.0 x.1 ys t zs
+
 -- type NAME ["=" expr] ";"
 abbrev pub LocalLine : Reads Stmt
 LocalLine xs t zs = (x : Place × (Ty × List ℕ)) × (ys : Tokens) × ((x.0 ≡ place_of xs) × Head xs x.1 ys) × Declares x.0 x.1 ys t zs

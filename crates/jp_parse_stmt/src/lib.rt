@@ -2,6 +2,7 @@
 #![tactic(auto)]
 
 mod change;
+mod clause;
 mod local;
 mod part;
 mod types;

@@ -3,6 +3,7 @@ ghost use Rattle.jp_ast.specs.declared.sign.TheConstants as sign;
 ghost use Rattle.jp_grammar.specs.Depth.{depth as depth_of};
 ghost use Rattle.jp_grammar.specs.Expressions.{Expression};
 ghost use Rattle.jp_grammar.specs.Reading.{Any, IsText, IsRest};
+ghost use Rattle.jp_grammar.specs.Statements.{Change};
 ghost use Rattle.jp_parse_stmt.specs.Behind.{anything};
 ghost use Rattle.jp_parse_stmt.specs.Locals.{begins_local, names_local, Head, Valued, Declares, LocalLine, Simple};
 ghost use Rattle.jp_parse_stmt.specs.Parts.{Gets, Shallow, Shut};
@@ -25,13 +26,22 @@ pub fn simple(alloc: Global, tokens: &[Token]) -> Result<(Boxed<Stmt>, &[Token])
     if begins_local(tokens) {
         return local(alloc, tokens);
     }
+    line_change(alloc, tokens)
+}
+
+/// A change and `;`.
+pub fn line_change(alloc: Global, tokens: &[Token]) -> Result<(Boxed<Stmt>, &[Token]), ParseFault>
+    requires { IsText tokens.now }
+    ensures gives { Gets (Shut sign.SEMICOLON Change) anything Shallow tokens.now result }
+    ensures rest { IfOk result (λ x. IsRest tokens.now x.1.now) }
+{
     let (tree, behind) = change(alloc, tokens)?;
     let rest = expect(alloc, behind, sign::SEMICOLON)?;
     Ok((tree, rest))
 }
 
 /// Whether a local variable begins there: a primitive type, two names, or a name and `[` `]`.
-fn begins_local(tokens: &[Token]) -> bool
+pub fn begins_local(tokens: &[Token]) -> bool
     requires { IsText tokens.now }
     ensures { result ≡ begins_local tokens.now }
 {
@@ -71,7 +81,7 @@ fn local(alloc: Global, tokens: &[Token]) -> Result<(Boxed<Stmt>, &[Token]), Par
 }
 
 /// A type and a name.
-fn head(alloc: Global, tokens: &[Token]) -> Result<((Ty, Name), &[Token]), ParseFault>
+pub fn head(alloc: Global, tokens: &[Token]) -> Result<((Ty, Name), &[Token]), ParseFault>
     requires { IsText tokens.now }
     ensures gives { Gets Head anything Any tokens.now result }
     ensures rest { IfOk result (λ x. IsRest tokens.now x.1.now) }
@@ -105,7 +115,7 @@ fn declares(
 }
 
 /// The value behind the type and the name of a local variable that begins at `place`, and `;`.
-fn valued(
+pub fn valued(
     alloc: Global,
     place: Place,
     ty: Ty,

@@ -1,34 +1,16 @@
-use Rattle.std.proofs.Common.{◌≡◌, ℕ, ◌≤◌, Bool, true, false, IsTrue, refl, sym, ap, ◌∙◌, subst, rules, arith}
+use Rattle.std.proofs.Common.{◌≡◌, ℕ, ◌≤◌, Bool, true, false, IsTrue, Ok, Err, refl, sym, ap, ◌∙◌, subst, rules, arith}
 use Rattle.std.proofs.lemmas.Result.{err_from_is_err_and}
 use Rattle.jp_ast.specs.declared.sign.TheConstants as sign
-use Rattle.jp_grammar.specs.declared.kind.Kind.{Kind}
-use Rattle.jp_grammar.specs.declared.kind.Kind.TheVariants as k
-use Rattle.jp_grammar.specs.Kinds.{Is, IsSign, kind_of_token}
+use Rattle.jp_ast.specs.declared.expr.Expr.{Expr}
+use Rattle.jp_grammar.specs.Kinds.{IsSign}
 use Rattle.jp_grammar.specs.Depth.{depth as depth_of}
 use Rattle.jp_parse_expr.proofs.Signs.{sign_is, sign_is_no}
 use Rattle.jp_parse_stmt.specs.Parts.{Shallow}
-use Rattle.jp_ast.specs.declared.token.Token.{Token}
-use Rattle.std.proofs.Common.{Ok, Err}
-use Rattle.jp_parse_stmt.proofs.Sealing.{shut_fails, shut_wrong, shut_gets}
-use Rattle.jp_parse_stmt.proofs.LocalLines.{semicolon_change, simple_line, simple_change}
+use Rattle.jp_parse_stmt.proofs.LocalLines.{simple_line, simple_change}
 use Rattle.jp_parse_stmt.proofs.local.simple.Goals as goal
 
 pub returns-then-begins_local-clause-gives : goal.returns-then-begins_local-clause-gives
-returns-then-begins_local-clause-gives c =
-    simple_line c.args.tokens.now c.local.result (sym c.begins_local.ensures ∙ c.if-begins_local.true) c.local.ensures.gives
-
-pub returns-in_err-tree-clause-gives : goal.returns-in_err-tree-clause-gives
-returns-in_err-tree-clause-gives c =
-    let p = err_from_is_err_and c.from_residual.result c.from_residual.ensures.1 in
-    rw (p.1, p.2) (simple_change c.args.tokens.now (Err c.in_err-tree.field-0.0) (sym c.begins_local.ensures ∙ c.if-begins_local.false) (shut_fails sign.SEMICOLON Shallow semicolon_change c.args.tokens.now c.in_err-tree.field-0.0 c.in_err-tree.ensures.gives))
-
-pub returns-in_err-rest-clause-gives : goal.returns-in_err-rest-clause-gives
-returns-in_err-rest-clause-gives c =
-    let p = err_from_is_err_and c.from_residual-in_err-rest.result c.from_residual-in_err-rest.ensures.1 in
-    let g = c.in_ok-tree.ensures.gives in
-    rw (p.1, p.2) (simple_change c.args.tokens.now (Err c.in_err-rest.field-0.0) (sym c.begins_local.ensures ∙ c.if-begins_local.false) (shut_wrong sign.SEMICOLON Shallow semicolon_change c.args.tokens.now c.in_ok-tree.behind.now c.in_ok-tree.tree c.in_err-rest.field-0.0 g.0 g.1 c.in_err-rest.ensures.gives))
+returns-then-begins_local-clause-gives c = simple_line c.args.tokens.now c.local.result (sym c.begins_local.ensures ∙ c.if-begins_local.true) c.local.ensures.gives
 
 pub returns-clause-gives : goal.returns-clause-gives
-returns-clause-gives c =
-    let g = c.in_ok-tree.ensures.gives in
-    simple_change c.args.tokens.now (Ok (c.in_ok-tree.tree, c.in_ok-rest.rest)) (sym c.begins_local.ensures ∙ c.if-begins_local.false) (shut_gets sign.SEMICOLON Shallow semicolon_change c.args.tokens.now c.in_ok-tree.behind.now c.in_ok-tree.tree c.in_ok-rest.rest g.0 g.1 c.in_ok-rest.ensures.gives)
+returns-clause-gives c = simple_change c.args.tokens.now c.line_change.result (sym c.begins_local.ensures ∙ c.if-begins_local.false) c.line_change.ensures.gives
