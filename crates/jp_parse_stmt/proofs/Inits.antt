@@ -157,14 +157,14 @@ valued_local xs zs t r = head_local xs r.1 r.0.1 r.2.1
 named_value : (at : Place) (u : Ty) (x : Ty × List ℕ) (xs ws ys zs : Tokens) (t : Stmt) → at ≡ place_of xs → OneType xs u ws → NameOf u ws x ys → Valued at x ys t zs → Shut sign.SEMICOLON Init xs t zs
 named_value at u x xs ws ys zs t place o (name_of {name = word} n) (valued {value = v} h r) =
     sealed_value at u word v xs _ zs r.1 r.0 place (λ w e. declared o n h e) r.2 r.3 where
-  sealed_value : (at : Place) (u : Ty) (word : List ℕ) (v : Expr) (xs ys zs vs : Tokens) (w : Expr) → at ≡ place_of xs → ((b : Expr) → Expression ys b vs → Declared xs (stmt_at (place_of xs) (made.Local u word (Some b))) vs) →
-      Expression ys w vs → Sealed sign.SEMICOLON w vs v zs → Shut sign.SEMICOLON Init xs (stmt_at at (made.Local u word (Some v))) zs
-  sealed_value at u word v xs ys zs [] w place make e s = absurd s
-  sealed_value at u word v xs ys zs (p ∷ vs) w place make e s =
-      let e' : Expression ys v (p ∷ vs) = subst (λ (b : Expr). Expression ys b (p ∷ vs)) (sym s.1) e in
-      let d = make v e' in
-      let t : Stmt = stmt_at at (made.Local u word (Some v)) in
-      (t, p ∷ vs, init_local (subst (λ (q : Place). Declared xs (stmt_at q (made.Local u word (Some v))) (p ∷ vs)) (sym place) d), (s.0, refl, s.2))
+      sealed_value : (at : Place) (u : Ty) (word : List ℕ) (v : Expr) (xs ys zs vs : Tokens) (w : Expr) → at ≡ place_of xs → ((b : Expr) → Expression ys b vs → Declared xs (stmt_at (place_of xs) (made.Local u word (Some b))) vs) →
+          Expression ys w vs → Sealed sign.SEMICOLON w vs v zs → Shut sign.SEMICOLON Init xs (stmt_at at (made.Local u word (Some v))) zs
+      sealed_value at u word v xs ys zs [] w place make e s = absurd s
+      sealed_value at u word v xs ys zs (p ∷ vs) w place make e s =
+          let e' : Expression ys v (p ∷ vs) = subst (λ (b : Expr). Expression ys b (p ∷ vs)) (sym s.1) e in
+          let d = make v e' in
+          let t : Stmt = stmt_at at (made.Local u word (Some v)) in
+          (t, p ∷ vs, init_local (subst (λ (q : Place). Declared xs (stmt_at q (made.Local u word (Some v))) (p ∷ vs)) (sym place) d), (s.0, refl, s.2))
 
 valued_into : (xs zs : Tokens) (t : Stmt) → ValuedLine xs t zs → Shut sign.SEMICOLON Init xs t zs
 valued_into xs zs t r = named_value r.0.0 r.2.1.0 r.0.1 xs r.2.1.1 r.1 zs t r.2.0 r.2.1.2 r.2.1.3 r.3

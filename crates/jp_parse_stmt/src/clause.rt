@@ -44,10 +44,7 @@ pub fn maybe_init(
 }
 
 /// An expression where one stands there, and `;`.
-pub fn maybe_expr(
-    alloc: Global,
-    tokens: &[Token],
-) -> Result<(Option<Expr>, &[Token]), ParseFault>
+pub fn maybe_expr(alloc: Global, tokens: &[Token]) -> Result<(Option<Expr>, &[Token]), ParseFault>
     requires { IsText tokens.now }
     ensures gives { Gets (MaybeShut sign.SEMICOLON Expression) anything (Each (λ t. depth_of t ≤ 200)) tokens.now result }
     ensures rest { IfOk result (λ x. IsRest tokens.now x.1.now) }

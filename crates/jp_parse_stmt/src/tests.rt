@@ -127,33 +127,26 @@ fn change_of(change: &Stmt) -> (char, u32, u32) {
     }
 }
 
-/// Each text begins with a change of this many tokens.
+/// What stands there as a change, with the position behind it, or the fault.
+fn change_at(alloc: Global, tokens: &[Token]) -> Result<(usize, (char, u32, u32)), (char, u32)>
+    requires { IsText tokens.now }
+{
+    match parse_change(alloc, tokens, 0) {
+        Ok((change, at)) => Ok((at, change_of(&change))),
+        Err(fault) => Err(fault_of(&fault)),
+    }
+}
+
+/// Each text begins with a change of this many tokens, or has this fault.
 fn changes(
     rt: &impl Abort,
     alloc: Global,
-    table: &[(&str, usize, (char, u32, u32))],
+    table: &[(&str, Result<(usize, (char, u32, u32)), (char, u32)>)],
 ) -> Result<(), Fail> {
-    for (text, end, found) in table {
+    for (text, wanted) in table {
         let tokens = tokens(alloc, text)?;
-        match parse_change(alloc, tokens.as_slice(), 0) {
-            Ok((change, at)) => {
-                assert_eq!(rt; at, *end, "{text}");
-                assert_eq!(rt; change_of(&change), *found, "{text}");
-            }
-            Err(_) => return Err(Fail::from("a fault")),
-        }
-    }
-    Ok(())
-}
-
-/// Each text has this fault where a change is read.
-fn stops(rt: &impl Abort, alloc: Global, table: &[(&str, (char, u32))]) -> Result<(), Fail> {
-    for (text, fault) in table {
-        let tokens = tokens(alloc, text)?;
-        match parse_change(alloc, tokens.as_slice(), 0) {
-            Ok(_) => return Err(Fail::from("no fault")),
-            Err(found) => assert_eq!(rt; fault_of(&found), *fault, "{text}"),
-        }
+        let found = change_at(alloc, tokens.as_slice());
+        assert_eq!(rt; found, *wanted, "{text}");
     }
     Ok(())
 }
@@ -165,13 +158,13 @@ fn changes_are_read(rt: HostRuntime) -> Result<(), Fail> {
         &rt,
         alloc,
         &[
-            ("a=1;", 3, ('=', 1, 3)),
-            ("a.b@1+2;", 7, ('=', 1, 5)),
-            ("a[1]~2)", 6, ('=', 1, 6)),
-            ("a^;", 2, ('^', 1, 1)),
-            ("(a).b_;", 6, ('_', 1, 1)),
-            ("a(1);", 4, ('r', 1, 1)),
-            ("a+1;", 1, ('r', 1, 1)),
+            ("a=1;", Ok((3, ('=', 1, 3)))),
+            ("a.b@1+2;", Ok((7, ('=', 1, 5)))),
+            ("a[1]~2)", Ok((6, ('=', 1, 6)))),
+            ("a^;", Ok((2, ('^', 1, 1)))),
+            ("(a).b_;", Ok((6, ('_', 1, 1)))),
+            ("a(1);", Ok((4, ('r', 1, 1)))),
+            ("a+1;", Ok((1, ('r', 1, 1)))),
         ],
     )
 }
@@ -179,18 +172,18 @@ fn changes_are_read(rt: HostRuntime) -> Result<(), Fail> {
 #[test]
 fn the_first_fault_of_a_change_is_told(rt: HostRuntime) -> Result<(), Fail> {
     let alloc = rt.alloc();
-    stops(
+    changes(
         &rt,
         alloc,
         &[
-            (";", ('u', 1)),
-            ("-a;", ('u', 1)),
-            ("X", ('o', 1)),
-            ("(a b", ('u', 3)),
-            ("a=", ('u', 3)),
-            ("a=;", ('u', 3)),
-            ("a=1+X", ('o', 5)),
-            ("a[=", ('u', 3)),
+            (";", Err(('u', 1))),
+            ("-a;", Err(('u', 1))),
+            ("X", Err(('o', 1))),
+            ("(a b", Err(('u', 3))),
+            ("a=", Err(('u', 3))),
+            ("a=;", Err(('u', 3))),
+            ("a=1+X", Err(('o', 5))),
+            ("a[=", Err(('u', 3))),
         ],
     )
 }
