@@ -1,9 +1,9 @@
 -- One of two readings, which the first tokens tell apart.
-use Rattle.std.proofs.Common.{◌≡◌, ℕ, List, [], ◌∷◌, ◌++◌, Bool, true, false, not, IsTrue, refl, sym, ap, ◌∙◌, subst, inl, inr, ◌⊎◌}
+use Rattle.std.proofs.Common.{◌≡◌, [], ◌∷◌, ◌++◌, Bool, true, false, refl, sym, ap, ◌∙◌, inl, inr, ◌⊎◌}
 use Rattle.jp_ast.specs.declared.token.Token.{Token}
 use Rattle.jp_grammar.specs.declared.fault.ParseFault.{ParseFault}
 use Rattle.jp_grammar.specs.Kinds.{Tokens}
-use Rattle.jp_grammar.specs.Reading.{Reads, Ends, Any, Never, Viable, Follows, Found, Fault, Fails, is_deep}
+use Rattle.jp_grammar.specs.Reading.{Reads, Ends, Any, Never, Found, Fault, Fails}
 
 -- S is R where the test of the tokens gives b. Where it depends on what comes behind a token, R goes on with that token.
 pub record Branch {A : Type 0} (d : Tokens → Bool) (b : Bool) (R S : Reads A) (ends : Token → Bool) (P : A → Type 0) : Type 0 where

@@ -1,22 +1,22 @@
 -- Changes.
-use Rattle.std.proofs.Common.{◌≡◌, ℕ, ◌≤◌, max, Bool, true, false, not, cond, ◌==◌, ◌||◌, IsTrue, List, [], ◌∷◌, ◌++◌, Option, Some, None, Result, Ok, Err, refl, sym, ap, ◌∙◌, subst, inl, inr, ◌⊎◌, rules, arith}
+use Rattle.std.proofs.Common.{◌≡◌, ℕ, ◌≤◌, max, Bool, true, false, cond, ◌==◌, ◌||◌, IsTrue, [], ◌∷◌, Option, Some, None, Result, Ok, Err, refl, sym, ap, ◌∙◌, subst, inl, inr, rules, arith}
 use Rattle.std.specs.Borrow.{Bor}
 use Rattle.std.proofs.lemmas.Bool.{eqb-true}
 use Rattle.jp_ast.specs.declared.token.Place.{Place}
 use Rattle.jp_ast.specs.declared.token.Token.{Token}
 use Rattle.jp_ast.specs.declared.expr.Expr.{Expr}
-use Rattle.jp_ast.specs.declared.stmt.Stmt.{Stmt, fold-Stmt, fold_out-Stmt, the_lemmas}
+use Rattle.jp_ast.specs.declared.stmt.Stmt.{Stmt, the_lemmas}
 use Rattle.jp_ast.specs.declared.stmt.StmtKind.TheVariants as made
 use Rattle.jp_ast.specs.declared.sign.TheConstants as sign
 use Rattle.jp_grammar.specs.declared.kind.Kind.{Kind}
 use Rattle.jp_grammar.specs.declared.kind.Kind.TheVariants as k
 use Rattle.jp_grammar.specs.declared.fault.ParseFault.{ParseFault}
 use Rattle.jp_grammar.specs.Kinds.{IsSign, Tokens, place_of, kind_of_token}
-use Rattle.jp_grammar.specs.Depth.{depth, deepest, deepest_step}
+use Rattle.jp_grammar.specs.Depth.{depth, deepest}
 use Rattle.jp_grammar.specs.Expressions.{Expression, Postfix}
 use Rattle.jp_grammar.specs.Statements.{Change, assign, bump, run, is_assignment, IsBump}
-use Rattle.jp_grammar.specs.Behind.{among, ends_full, ends_level, ends_kind, stands_behind}
-use Rattle.jp_grammar.specs.Reading.{Reads, Ends, Any, Follows, Found, Fails}
+use Rattle.jp_grammar.specs.Behind.{ends_full, ends_level, ends_kind, stands_behind}
+use Rattle.jp_grammar.specs.Reading.{Reads, Ends, Follows, Found, Fails}
 use Rattle.jp_grammar.proofs.Sequence.{Then, found_image, fails_image}
 use Rattle.jp_grammar.proofs.Outcome.{Joint, Same, image_of, Placed, found_nothing, found_placed, fails_placed}
 use Rattle.jp_grammar.proofs.Excluding.{or_cases, among_misses, behind_level}

@@ -1,5 +1,5 @@
 -- What may begin a `for`, and parts that may be left out.
-use Rattle.std.proofs.Common.{◌≡◌, ℕ, ◌<◌, ◌≤◌, Bool, true, false, IsTrue, List, [], ◌∷◌, ◌++◌, length, Option, Some, None, Result, Ok, Err, refl, sym, ap, ◌∙◌, subst, inl, inr, ◌⊎◌, rules, arith}
+use Rattle.std.proofs.Common.{◌≡◌, ℕ, ◌≤◌, true, false, IsTrue, List, [], ◌∷◌, ◌++◌, length, Some, Result, Ok, Err, refl, sym, ap, subst, inl, inr, ◌⊎◌, arith}
 use Rattle.std.specs.Borrow.{Bor}
 use Rattle.jp_pred.specs.declared.ty.Ty.{Ty}
 use Rattle.jp_pred.specs.declared.ty.Ty.TheVariants as ty
@@ -12,15 +12,13 @@ use Rattle.jp_ast.specs.declared.sign.TheConstants as sign
 use Rattle.jp_grammar.specs.declared.kind.Kind.{Kind}
 use Rattle.jp_grammar.specs.declared.kind.Kind.TheVariants as k
 use Rattle.jp_grammar.specs.declared.fault.ParseFault.{ParseFault}
-use Rattle.jp_grammar.specs.Kinds.{Is, IsSign, IsName, Tokens, place_of, kind_of_token}
-use Rattle.jp_grammar.specs.Trees.{named_at, index_at}
-use Rattle.jp_grammar.specs.Depth.{depth, deepest}
-use Rattle.jp_grammar.specs.Expressions.{Expression, Postfix, IsElement}
-use Rattle.jp_grammar.specs.Statements.{OneType, Change, Declared, Init, Test, element_type, array_type, assign, bump, run, declared, init_local, init_change, test, is_assignment}
-use Rattle.jp_grammar.specs.Reading.{Reads, Ends, Any, Follows, Found, Fails, Begins, Takes, Lacks}
+use Rattle.jp_grammar.specs.Kinds.{IsSign, Tokens, place_of, kind_of_token}
+use Rattle.jp_grammar.specs.Depth.{depth}
+use Rattle.jp_grammar.specs.Expressions.{Expression, IsElement}
+use Rattle.jp_grammar.specs.Statements.{OneType, Change, Declared, Init, Test, element_type, array_type, assign, bump, run, declared, init_local, init_change, test}
+use Rattle.jp_grammar.specs.Reading.{Ends, Any, Found, Fails, Begins, Takes, Lacks}
 use Rattle.jp_grammar.specs.Behind.{begins_plain, begins_expr, ends_full, stands_behind}
-use Rattle.jp_grammar.proofs.Sequence.{found_image, fails_image}
-use Rattle.jp_grammar.proofs.Outcome.{Joint, Same, image_of, Placed, fails_at, found_placed, fails_placed}
+use Rattle.jp_grammar.proofs.Outcome.{Joint, Same, Placed, fails_at, found_placed, fails_placed}
 use Rattle.jp_grammar.proofs.Facts.{postfix_begins, postfix_shorter, expression_begins, expression_shorter}
 use Rattle.jp_grammar.proofs.Samples.{a_name, a_name_is, a_number, a_sign, zero_expr, expression_number}
 use Rattle.jp_grammar.proofs.Depths.{depth_number}

@@ -1,12 +1,12 @@
 -- Declarations of local variables, and simple statements.
-use Rattle.std.proofs.Common.{◌≡◌, ℕ, zero, suc, ◌<◌, ◌≤◌, max, Bool, true, false, not, ◌==◌, IsTrue, List, [], ◌∷◌, ◌++◌, length, Option, Some, None, Result, Ok, Err, refl, sym, ap, ◌∙◌, subst, inl, inr, ◌⊎◌, rules, arith}
+use Rattle.std.proofs.Common.{◌≡◌, ℕ, ◌<◌, ◌≤◌, Bool, true, false, not, IsTrue, List, [], ◌∷◌, ◌++◌, length, Option, Some, None, Result, Ok, Err, refl, sym, ap, ◌∙◌, subst, inl, inr, rules, arith}
 use Rattle.std.specs.Borrow.{Bor}
 use Rattle.jp_pred.specs.declared.ty.Ty.{Ty}
 use Rattle.jp_pred.specs.declared.ty.Ty.TheVariants as ty
 use Rattle.jp_ast.specs.declared.token.Place.{Place}
 use Rattle.jp_ast.specs.declared.token.Token.{Token}
 use Rattle.jp_ast.specs.declared.expr.Expr.{Expr}
-use Rattle.jp_ast.specs.declared.stmt.Stmt.{Stmt, fold-Stmt, fold_out-Stmt, the_lemmas}
+use Rattle.jp_ast.specs.declared.stmt.Stmt.{Stmt, the_lemmas}
 use Rattle.jp_ast.specs.declared.stmt.StmtKind.TheVariants as made
 use Rattle.jp_ast.specs.declared.sign.TheConstants as sign
 use Rattle.jp_grammar.specs.declared.kind.Kind.{Kind}
@@ -14,11 +14,11 @@ use Rattle.jp_grammar.specs.declared.kind.Kind.TheVariants as k
 use Rattle.jp_grammar.specs.declared.fault.ParseFault.{ParseFault}
 use Rattle.jp_grammar.specs.Kinds.{Is, IsSign, IsName, Tokens, nowhere, place_of, kind_of_token, is_sign_kind}
 use Rattle.jp_grammar.specs.Trees.{named_at, index_at}
-use Rattle.jp_grammar.specs.Depth.{depth, depth_of_option, deepest, deepest_step}
+use Rattle.jp_grammar.specs.Depth.{depth, depth_of_option, deepest}
 use Rattle.jp_grammar.specs.Expressions.{Expression, postfix, name, uncalled, steps_end, element, bracketed}
 use Rattle.jp_grammar.specs.Statements.{OneType, Change, element_type, array_type, run}
-use Rattle.jp_grammar.specs.Reading.{Reads, Ends, Any, Follows, Found, Fails, RefusedName, Takes, Lacks}
-use Rattle.jp_grammar.proofs.Sequence.{Then, found_image, fails_image}
+use Rattle.jp_grammar.specs.Reading.{Reads, Ends, Any, Found, Fails, RefusedName, Takes, Lacks}
+use Rattle.jp_grammar.proofs.Sequence.{found_image, fails_image}
 use Rattle.jp_grammar.proofs.Choice.{Choice, found_choice, fails_choice}
 use Rattle.jp_grammar.proofs.Outcome.{Joint, Same, image_of, Placed, fails_at, found_placed, fails_placed}
 use Rattle.jp_grammar.proofs.Depths.{depth_number, depth_var, depth_index}
@@ -33,7 +33,7 @@ use Rattle.jp_parse_stmt.proofs.Branches.{Branch, found_branch, fails_branch}
 use Rattle.jp_parse_stmt.proofs.Changes.{deepest_run}
 use Rattle.jp_parse_stmt.proofs.LocalTokens.{Untold, depends, head_local, shut_no_local}
 use Rattle.jp_parse_stmt.proofs.Sealing.{sealed_shorter}
-use Rattle.jp_parse_stmt.proofs.Steps.{gets_then, gets_fault, gets_same}
+use Rattle.jp_parse_stmt.proofs.Steps.{gets_then, gets_fault}
 
 pub deepest_local : (p : Place) (t : Ty) (n : List ℕ) (v : Option Expr) → deepest (stmt_at p (made.Local t n v)) ≡ depth_of_option v
 unfolding deepest

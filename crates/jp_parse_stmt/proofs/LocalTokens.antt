@@ -1,5 +1,5 @@
 -- The first tokens tell the declaration of a local variable from a change.
-use Rattle.std.proofs.Common.{◌≡◌, ℕ, Bool, true, false, not, ◌&&◌, ◌||◌, ◌==◌, IsTrue, List, [], ◌∷◌, ◌++◌, Option, Some, None, refl, sym, ap, ◌∙◌, subst, inl, inr, ◌⊎◌}
+use Rattle.std.proofs.Common.{◌≡◌, ℕ, Bool, true, false, ◌&&◌, ◌||◌, IsTrue, List, [], ◌∷◌, ◌++◌, None, refl, sym, ap, ◌∙◌, subst, inl, inr, ◌⊎◌}
 use Rattle.jp_pred.specs.declared.ty.Ty.{Ty}
 use Rattle.jp_pred.specs.declared.ty.Ty.TheVariants as ty
 use Rattle.jp_ast.specs.declared.token.Place.{Place}
@@ -10,7 +10,7 @@ use Rattle.jp_ast.specs.declared.sign.TheConstants as sign
 use Rattle.jp_grammar.specs.declared.kind.Kind.{Kind}
 use Rattle.jp_grammar.specs.declared.kind.Kind.TheVariants as k
 use Rattle.jp_grammar.specs.Kinds.{Is, IsSign, IsName, Tokens, place_of, kind_of_token, kind_of_lexeme, is_sign_kind, is_sign_of}
-use Rattle.jp_grammar.specs.Expressions.{Expression, Postfix, Primary, Steps, Named, Bracketed, NewArray, IsElement, postfix, postfix_array, steps_end, member, element, uncalled, called, number, text, truth, falsehood, nothing, receiver, parenthesis, name, super_call, new_object, new_array, bracketed}
+use Rattle.jp_grammar.specs.Expressions.{Postfix, Primary, Steps, Named, Bracketed, IsElement, postfix, postfix_array, steps_end, member, element, uncalled, called, number, text, truth, falsehood, nothing, receiver, parenthesis, name, super_call, new_object, new_array, bracketed}
 use Rattle.jp_grammar.specs.Statements.{OneType, Change, element_type, array_type}
 use Rattle.jp_grammar.specs.Reading.{Ends, Begins}
 use Rattle.jp_grammar.specs.Behind.{ends_level, ends_kind, begins_expr}
@@ -18,7 +18,7 @@ use Rattle.jp_grammar.proofs.Excluding.{or_cases, or_left, or_right}
 use Rattle.jp_grammar.proofs.Facts.{expression_begins}
 use Rattle.jp_parse_expr.proofs.Signs.{sign_is}
 use Rattle.jp_parse_stmt.specs.Behind.{ends_change, change_kind}
-use Rattle.jp_parse_stmt.specs.Parts.{Sealed, Shut, Changed}
+use Rattle.jp_parse_stmt.specs.Parts.{Sealed, Shut}
 use Rattle.jp_parse_stmt.proofs.Changes.{changed_from, changed_starts}
 use Rattle.jp_parse_stmt.specs.Locals.{is_name, closes, names_local, local_kind, begins_local, NameOf, name_of, Head}
 

@@ -1,11 +1,11 @@
 -- A part, or none, and a sign behind it.
-use Rattle.std.proofs.Common.{◌≡◌, ℕ, suc, ◌<◌, ◌≤◌, List, [], ◌∷◌, ◌++◌, Bool, true, not, IsTrue, Option, Some, None, length, Result, Ok, Err, refl, sym, ap, ◌∙◌, subst, inl, inr, ◌⊎◌, arith}
+use Rattle.std.proofs.Common.{◌≡◌, ℕ, ◌<◌, ◌≤◌, [], ◌∷◌, Bool, IsTrue, Option, Some, None, length, Ok, Err, refl, sym, ap, ◌∙◌, subst, arith}
 use Rattle.std.specs.Borrow.{Bor}
 use Rattle.jp_ast.specs.declared.token.Token.{Token}
 use Rattle.jp_grammar.specs.declared.fault.ParseFault.{ParseFault}
 use Rattle.jp_grammar.specs.Kinds.{IsSign, Tokens}
-use Rattle.jp_grammar.specs.Reading.{Reads, Ends, Any, Follows, Found, Fails, Takes, Lacks}
-use Rattle.jp_grammar.proofs.Sequence.{Then, found_image, fails_image}
+use Rattle.jp_grammar.specs.Reading.{Reads, Ends, Found, Fails, Takes, Lacks}
+use Rattle.jp_grammar.proofs.Sequence.{found_image, fails_image}
 use Rattle.jp_grammar.proofs.Choice.{Choice, found_choice, fails_choice}
 use Rattle.jp_grammar.proofs.Outcome.{Joint, Same, image_of, fails_at}
 use Rattle.jp_grammar.proofs.Samples.{a_sign}

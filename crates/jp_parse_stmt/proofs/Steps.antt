@@ -1,10 +1,10 @@
 -- Parts read one behind the other, and parts read as others.
-use Rattle.std.proofs.Common.{◌≡◌, ℕ, List, [], ◌∷◌, ◌++◌, Bool, not, IsTrue, Result, Ok, Err, refl, sym, ap, ◌∙◌, subst, inl, inr, ◌⊎◌}
+use Rattle.std.proofs.Common.{[], ◌∷◌, ◌++◌, Bool, Result, Ok, Err, inl, inr}
 use Rattle.std.specs.Borrow.{Bor}
 use Rattle.jp_ast.specs.declared.token.Token.{Token}
 use Rattle.jp_grammar.specs.declared.fault.ParseFault.{ParseFault}
 use Rattle.jp_grammar.specs.Kinds.{Tokens}
-use Rattle.jp_grammar.specs.Reading.{Reads, Ends, Any, Never, Viable, SameHead, Follows, Found, Fault, Fails, is_deep}
+use Rattle.jp_grammar.specs.Reading.{Reads, Ends, Any, Follows, Found, Fault, Fails}
 use Rattle.jp_grammar.proofs.Sequence.{Then, found_then, found_image, fails_first, fails_then, fails_image}
 use Rattle.jp_grammar.proofs.Outcome.{Joint, Same, step_of, image_of}
 use Rattle.jp_parse_stmt.specs.Parts.{Gets}

@@ -1,5 +1,5 @@
 -- What is left of a text.
-use Rattle.std.proofs.Common.{◌≡◌, ℕ, zero, suc, ◌≤◌, List, [], ◌∷◌, length, drop, arith}
+use Rattle.std.proofs.Common.{ℕ, zero, suc, ◌≤◌, [], ◌∷◌, length, drop, arith}
 use Rattle.jp_grammar.specs.Kinds.{Tokens}
 
 -- what is left is no longer than what was there

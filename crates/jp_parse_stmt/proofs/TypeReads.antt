@@ -1,5 +1,5 @@
 -- Types.
-use Rattle.std.proofs.Common.{◌≡◌, ℕ, Bool, true, false, not, ◌==◌, IsTrue, List, [], ◌∷◌, ◌++◌, Option, Some, None, refl, sym, ap, ◌∙◌, subst, inl, inr, ◌⊎◌}
+use Rattle.std.proofs.Common.{◌≡◌, not, IsTrue, [], ◌∷◌, Option, Some, None, refl, sym, ap, ◌∙◌, subst, inl, inr}
 use Rattle.jp_pred.specs.declared.ty.Ty.{Ty}
 use Rattle.jp_pred.specs.declared.ty.Ty.TheVariants as ty
 use Rattle.jp_ast.specs.declared.token.Token.{Token}
@@ -9,7 +9,7 @@ use Rattle.jp_ast.specs.declared.sign.TheConstants as sign
 use Rattle.jp_grammar.specs.declared.kind.Kind.{Kind}
 use Rattle.jp_grammar.specs.declared.kind.Kind.TheVariants as k
 use Rattle.jp_grammar.specs.declared.fault.ParseFault.{ParseFault}
-use Rattle.jp_grammar.specs.Kinds.{Is, IsSign, IsName, Tokens, kind_of_token, is_sign_kind}
+use Rattle.jp_grammar.specs.Kinds.{IsSign, Tokens, kind_of_token, is_sign_kind}
 use Rattle.jp_grammar.specs.Expressions.{IsElement}
 use Rattle.jp_grammar.specs.Statements.{OneType, element_type, array_type, array_of}
 use Rattle.jp_grammar.specs.Reading.{Ends, Any, Follows, Found, Fails, Takes, Lacks}

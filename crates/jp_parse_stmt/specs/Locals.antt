@@ -1,5 +1,5 @@
 -- Declarations of local variables, by what is read of them, and how the first tokens tell them from changes.
-use Rattle.std.specs.Prelude.{◌≡◌, ℕ, Bool, true, false, ◌&&◌, ◌||◌, List, [], ◌∷◌, Option, Some, None, ◌⊎◌}
+use Rattle.std.specs.Prelude.{◌≡◌, ℕ, Bool, true, false, ◌&&◌, ◌||◌, List, [], ◌∷◌, Some, None, ◌⊎◌}
 use Rattle.jp_pred.specs.declared.ty.Ty.{Ty}
 use Rattle.jp_ast.specs.declared.token.Place.{Place}
 use Rattle.jp_ast.specs.declared.token.Token.{Token}

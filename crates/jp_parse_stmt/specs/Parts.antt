@@ -1,5 +1,5 @@
 -- Parts of a statement behind what was read of it before, and what the functions that read them answer.
-use Rattle.std.specs.Prelude.{◌≡◌, ℕ, ◌==◌, ◌≤◌, Bool, true, false, if◌then◌else◌, List, [], ◌∷◌, Option, Some, None, Result, Ok, Err, IsTrue, ◌⊎◌}
+use Rattle.std.specs.Prelude.{◌≡◌, ℕ, ◌==◌, ◌≤◌, Bool, true, false, if◌then◌else◌, [], ◌∷◌, Option, Some, None, Result, Ok, Err, IsTrue, ◌⊎◌}
 use Rattle.std.specs.Borrow.{Bor}
 use Rattle.jp_pred.specs.declared.ty.Ty.{Ty}
 use Rattle.jp_ast.specs.declared.token.Place.{Place}

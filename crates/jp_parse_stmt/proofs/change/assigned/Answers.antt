@@ -1,4 +1,3 @@
-use Rattle.std.proofs.Common.{◌≡◌, ℕ, ◌≤◌, sym, rules, arith}
 use Rattle.std.proofs.lemmas.Result.{err_from_is_err_and}
 use Rattle.jp_parse_stmt.proofs.Changes.{right_fails, right_gets}
 use Rattle.jp_parse_stmt.proofs.change.assigned.Goals as goal

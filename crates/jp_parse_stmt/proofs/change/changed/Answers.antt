@@ -1,4 +1,4 @@
-use Rattle.std.proofs.Common.{◌≡◌, ℕ, ◌≤◌, Bool, IsTrue, Option, Some, None, refl, sym, ap, ◌∙◌, rules, arith}
+use Rattle.std.proofs.Common.{◌≡◌, Some, None, refl, sym, ap, ◌∙◌}
 use Rattle.jp_grammar.specs.Kinds.{kind_of_token}
 use Rattle.jp_parse_stmt.specs.Parts.{assignment_of, bump_of}
 use Rattle.jp_parse_stmt.proofs.Changes.{assigned_gets, bumped_gets, ran_gets, assignment_kind, bump_sign, none_of}

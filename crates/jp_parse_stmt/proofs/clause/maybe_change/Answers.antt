@@ -1,9 +1,7 @@
-use Rattle.std.proofs.Common.{◌≡◌, ℕ, ◌≤◌, Bool, true, false, IsTrue, Ok, Err, refl, sym, ap, ◌∙◌, subst, rules, arith}
+use Rattle.std.proofs.Common.{refl, sym, ◌∙◌}
 use Rattle.std.proofs.lemmas.Result.{err_from_is_err_and}
 use Rattle.jp_ast.specs.declared.sign.TheConstants as sign
-use Rattle.jp_ast.specs.declared.expr.Expr.{Expr}
 use Rattle.jp_grammar.specs.Kinds.{IsSign}
-use Rattle.jp_grammar.specs.Depth.{depth as depth_of}
 use Rattle.jp_parse_expr.proofs.Signs.{sign_is, sign_is_no}
 use Rattle.jp_parse_stmt.specs.Parts.{Shallow}
 use Rattle.jp_parse_stmt.proofs.Sealing.{maybe_none, maybe_fails, maybe_some}

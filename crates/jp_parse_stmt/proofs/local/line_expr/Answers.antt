@@ -1,16 +1,8 @@
-use Rattle.std.proofs.Common.{◌≡◌, ℕ, ◌≤◌, Bool, true, false, IsTrue, refl, sym, ap, ◌∙◌, subst, rules, arith}
+use Rattle.std.proofs.Common.{◌≤◌}
 use Rattle.std.proofs.lemmas.Result.{err_from_is_err_and}
 use Rattle.jp_ast.specs.declared.sign.TheConstants as sign
-use Rattle.jp_grammar.specs.declared.kind.Kind.{Kind}
-use Rattle.jp_grammar.specs.declared.kind.Kind.TheVariants as k
-use Rattle.jp_grammar.specs.Kinds.{Is, IsSign, kind_of_token}
 use Rattle.jp_grammar.specs.Depth.{depth as depth_of}
-use Rattle.jp_parse_expr.proofs.Signs.{sign_is, sign_is_no}
-use Rattle.jp_parse_stmt.specs.Parts.{Shallow}
-use Rattle.jp_grammar.specs.Behind.{ends_full, stands_behind}
-use Rattle.jp_grammar.specs.Expressions.{Expression}
 use Rattle.jp_ast.specs.declared.expr.Expr.{Expr}
-use Rattle.jp_ast.specs.declared.token.Token.{Token}
 use Rattle.jp_parse_stmt.proofs.Sealing.{shut_fails, shut_wrong, shut_gets}
 use Rattle.jp_parse_stmt.proofs.LocalLines.{semicolon_full}
 use Rattle.jp_parse_stmt.proofs.local.line_expr.Goals as goal

@@ -1,12 +1,4 @@
-use Rattle.std.proofs.Common.{◌≡◌, ℕ, ◌≤◌, Bool, true, false, IsTrue, refl, sym, ap, ◌∙◌, subst, rules, arith}
 use Rattle.std.proofs.lemmas.Result.{err_from_is_err_and}
-use Rattle.jp_ast.specs.declared.sign.TheConstants as sign
-use Rattle.jp_grammar.specs.declared.kind.Kind.{Kind}
-use Rattle.jp_grammar.specs.declared.kind.Kind.TheVariants as k
-use Rattle.jp_grammar.specs.Kinds.{Is, IsSign, kind_of_token}
-use Rattle.jp_grammar.specs.Depth.{depth as depth_of}
-use Rattle.jp_parse_expr.proofs.Signs.{sign_is, sign_is_no}
-use Rattle.jp_parse_stmt.specs.Parts.{Shallow}
 use Rattle.jp_parse_stmt.proofs.LocalLines.{line_fails, line_gets}
 use Rattle.jp_parse_stmt.proofs.local.local.Goals as goal
 

@@ -1,6 +1,4 @@
-use Rattle.std.proofs.Common.{◌≡◌, ℕ, ◌-◌, ◌<◌, ◌≤◌, length, drop, sym, rules, arith}
 use Rattle.std.proofs.lemmas.List.{take_rest}
-use Rattle.jp_grammar.specs.Reading.{IsText}
 use Rattle.jp_parse_expr.proofs.Runs.{text_drop}
 use Rattle.jp_parse_stmt.proofs.Texts.{drop_short}
 use Rattle.jp_parse_stmt.proofs.part.expr.Goals as goal
