@@ -1,10 +1,16 @@
 pub mod Branches
 pub mod Changes
 pub mod Endings
+pub mod FormReads
 pub mod Inits
 pub mod LocalLines
 pub mod LocalTokens
 pub mod Sealing
 pub mod Steps
+pub mod StmtBlocks
+pub mod StmtDepths
+pub mod StmtEnds
+pub mod StmtFacts
+pub mod StmtParts
 pub mod Texts
 pub mod TypeReads

@@ -1,4 +1,5 @@
 pub mod Behind
+pub mod Forms
 pub mod Locals
 pub mod Parses
 pub mod Parts
