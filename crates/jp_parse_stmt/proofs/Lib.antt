@@ -7,10 +7,13 @@ pub mod LocalLines
 pub mod LocalTokens
 pub mod Sealing
 pub mod Steps
+pub mod StmtBare
 pub mod StmtBlocks
 pub mod StmtDepths
 pub mod StmtEnds
 pub mod StmtFacts
+pub mod StmtLoops
 pub mod StmtParts
+pub mod StmtTurns
 pub mod Texts
 pub mod TypeReads

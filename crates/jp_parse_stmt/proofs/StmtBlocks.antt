@@ -29,7 +29,7 @@ use Rattle.jp_parse_stmt.proofs.StmtParts.{fails_known, some_token, text_some, b
 brace_no_stmt : (s : Token) → IsSign sign.CLOSE_BRACE s → IsTrue (begins_stmt (kind_of_token s)) → ⊥
 brace_no_stmt s h b = let g : IsTrue (begins_stmt (k.Sign sign.CLOSE_BRACE)) = subst (λ (x : Kind). IsTrue (begins_stmt x)) h b in cc
 
-block_grows : {ts us : List Stmt} {xs zs : Tokens} → Block ts xs us zs → (greatest (map stmt_depth ts) ≤ greatest (map stmt_depth us)) × (greatest (map deepest ts) ≤ greatest (map deepest us))
+pub block_grows : {ts us : List Stmt} {xs zs : Tokens} → Block ts xs us zs → (greatest (map stmt_depth ts) ≤ greatest (map stmt_depth us)) × (greatest (map deepest ts) ≤ greatest (map deepest us))
 block_grows (block_end h) = (omega arith, omega arith)
 block_grows {ts = ts} (block_more {t = t} o r) = let d = greatest_push stmt_depth ts t in let i = greatest_push deepest ts t in let h = block_grows r in (omega (arith, d, h.0), omega (arith, i, h.1))
 
@@ -146,4 +146,4 @@ pub small_within : (ts : List Stmt) → SmallAll 200 ts → deepest_of_block ts 
 small_within ts h = let d = deepest_both ts in omega (arith, d, h.0, h.1)
 
 pub block_within : (xs : Tokens) (e : ParseFault) → Gets (Block []) anything (SmallAll 200) xs (Err e) → FailsWithin (Block []) deepest_of_block anything 200 xs e
-block_within xs e f = fails_known (λ xs zs ts r p. small_within ts p) within_small xs e f
+block_within xs e f = fails_known (λ xs zs ts r p. small_within ts p) (λ xs zs ts r p. within_small ts p) xs e f

@@ -109,7 +109,7 @@ simple_gives most s xs tokens (Ok x) room split p rest g =
     (false, subst (λ (y : Tokens). Found OneStmt ends_stmt y (with x.0 false) x.1.now) (sym split) (found_choice (simple_choice s p) f'), simple_fits most room _ _ (with x.0 false) r g.1, text_some x.1.now rest.0)
 simple_gives most s xs tokens (Err e) room split p rest g =
     let f : Fails SimpleOne ends_stmt anything (λ x. Shallow x.0) tokens e = fails_image (simple_image Shallow) anything tokens e g in
-    let f' : Fails SimpleOne ends_stmt anything (Small most) (s ∷ xs) e = subst (λ (y : Tokens). Fails SimpleOne ends_stmt anything (Small most) y e) split (fails_known (simple_fits most room) (λ x q. q.1) tokens e f) in
+    let f' : Fails SimpleOne ends_stmt anything (Small most) (s ∷ xs) e = subst (λ (y : Tokens). Fails SimpleOne ends_stmt anything (Small most) y e) split (fails_known (simple_fits most room) (λ xs zs x r q. q.1) tokens e f) in
     subst (λ (y : Tokens). Fails OneStmt ends_stmt anything (Small most) y e) (sym split) (fails_choice (simple_choice s p) anything (Small most) xs e f')
 
 -- ---- a word and `;`

@@ -33,7 +33,7 @@ use Rattle.jp_parse_stmt.proofs.StmtFacts.{stmt_begins, stmt_shorter, block_shor
 
 -- where the one bound holds of what is read, the other does, and the other way round
 pub fails_known : {A : Type 0} {R : Reads A} {ends : A → Token → Bool} {follow : Token → Bool} {P Q : A → Type 0} →
-    ((xs zs : Tokens) (t : A) → R xs t zs → P t → Q t) → ((t : A) → Q t → P t) → (xs : Tokens) (e : ParseFault) → Fails R ends follow P xs e → Fails R ends follow Q xs e
+    ((xs zs : Tokens) (t : A) → R xs t zs → P t → Q t) → ((xs zs : Tokens) (t : A) → R xs t zs → Q t → P t) → (xs : Tokens) (e : ParseFault) → Fails R ends follow P xs e → Fails R ends follow Q xs e
 fails_known up down xs e (inl m) = inl m
 fails_known {A} {R} {ends} {follow} {P} {Q} up down xs e (inr g) = inr (record {
   front = g.front;
@@ -42,7 +42,7 @@ fails_known {A} {R} {ends} {follow} {P} {Q} up down xs e (inr g) = inr (record {
   split = g.split;
   tells = g.tells;
   viable = λ zs f. let v : (more : Tokens) × (t : A) × R (g.front ++ (more ++ zs)) t zs × Ends (ends t) zs × P t = g.viable zs f in (v.0, v.1, v.2, v.3, up _ _ v.1 v.2 v.4);
-  never = λ more zs t r f q. g.never more zs t r f (down t q);
+  never = λ more zs t r f q. g.never more zs t r f (down _ _ t r q);
   never_deeper = g.never_deeper;
   deeper = g.deeper;
 })
@@ -162,7 +162,7 @@ not_short false h = refl
 abbrev pub an_else : Token
 an_else = record { place = nowhere; lexeme = lexeme.Word (101 ∷ 108 ∷ 115 ∷ 101 ∷ []) }
 
-an_else_is : Is k.Else an_else
+pub an_else_is : Is k.Else an_else
 unfolding kind_of_word reserved
 an_else_is = refl
 
