@@ -129,7 +129,7 @@ form_of s xs zs t short (local {c = c} {p = p} {name = word} {t = u} o n h) =
 form_of s xs zs t short (local_value {p = p} d h) = simple_form (kind_of_token s) s xs zs (t, short) (declared_simple s xs _ t d) (inl (declared_line (s ∷ xs) zs p t d h)) refl
 form_of s xs zs t short (when_true {ys = ys} {ws = ws} {e = e} {a = a} {inner = inner} h r b f) = moved k.If s xs zs (t, short) h (e, ys, r, ((a, inner), ws, b, f))
 form_of s xs zs t short (while_true {ys = ys} {e = e} {a = a} h r b) = moved k.While s xs zs (t, short) h (e, ys, r, (a, b, refl))
-form_of s xs zs t short (for_each {o = o} {xs = vs} {ys = ys} {ws = ws} {vs = us} {i = i} {c = c} {e = e} {a = a} h q m n l b) = moved k.For s xs zs (t, short) h ((i, (e, c)), us, open_turns q (i, ys, maybe_init m, (e, ws, maybe_expr n, (c, maybe_change l, refl))), (a, b, refl))
+form_of s xs zs t short (for_each {o = o} {xs = vs} {ys = ys} {ws = ws} {vs = us} {i = i} {c = c} {e = e} {a = a} h q m n l b) = moved k.For s xs zs (t, short) h ((i, e, c), us, open_turns q (i, ys, maybe_init m, (e, ws, maybe_expr n, (c, maybe_change l, refl))), (a, b, refl))
 form_of s xs zs t short (break_off {p = p} h q) = moved k.Break s xs zs (t, short) h (p, refl, q, refl, refl)
 form_of s xs zs t short (continue_on {p = p} h q) = moved k.Continue s xs zs (t, short) h (p, refl, q, refl, refl)
 form_of s xs zs t short (return_from {e = e} h r) = moved k.Return s xs zs (t, short) h (e, maybe_expr r, refl, refl)

@@ -51,7 +51,7 @@ change_begins xs zs t (assign p h i e) = postfix_begins p
 change_begins xs zs t (bump p h) = postfix_begins p
 change_begins xs zs t (run p) = postfix_begins p
 
-begins_sign : (n : ℕ) (s : Token) → begins_plain (k.Sign n) ≡ false → IsSign n s → IsTrue (begins_plain (kind_of_token s)) → ⊥
+pub begins_sign : (n : ℕ) (s : Token) → begins_plain (k.Sign n) ≡ false → IsSign n s → IsTrue (begins_plain (kind_of_token s)) → ⊥
 begins_sign n s f h b = let g : IsTrue (begins_plain (k.Sign n)) = subst (λ (x : Kind). IsTrue (begins_plain x)) h b in cc
 
 -- no change begins with `)`
@@ -64,7 +64,7 @@ elem_no_sign n ty.Boolean s i h = cc
 elem_no_sign n (ty.Class class) s i h = let j = i.1 in cc
 elem_no_sign n _ s i h = absurd i
 
-type_no_sign : (n : ℕ) (t : Ty) (s : Token) (xs ys : Tokens) → OneType (s ∷ xs) t ys → IsSign n s → ⊥
+pub type_no_sign : (n : ℕ) (t : Ty) (s : Token) (xs ys : Tokens) → OneType (s ∷ xs) t ys → IsSign n s → ⊥
 type_no_sign n t s xs ys (element_type i) h = elem_no_sign n t s i h
 type_no_sign n t s xs ys (array_type elem i o p) h = elem_no_sign n elem s i h
 

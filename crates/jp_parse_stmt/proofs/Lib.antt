@@ -14,6 +14,7 @@ pub mod StmtEnds
 pub mod StmtFacts
 pub mod StmtLoops
 pub mod StmtParts
+pub mod StmtSigns
 pub mod StmtTurns
 pub mod Texts
 pub mod TypeReads

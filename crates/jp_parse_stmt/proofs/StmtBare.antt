@@ -177,13 +177,13 @@ module _ (at : Place) (s : Token) (xs tokens : Tokens) (split : tokens ≡ s ∷
   bare_refused e other h r = subst (λ (x : Tokens). Formed (Braced at) 1 x (Err e)) (sym split) (braced_fails at 1 (omega arith) (s ∷ xs) e (bare_wrong s xs e other (λ i. cc) r))
 
   pub bare_closed : (t : Stmt) (zs : Bor Tokens) → zs.now ≡ xs → IsSign sign.CLOSE_BRACE s → IsText zs.now → t ≡ stmt_at at (made.Block []) → Formed (Braced at) 1 tokens (Ok (t, zs))
-  bare_closed t zs rest h text same = braced_gives at 1 (omega arith) [] t tokens zs (block_found 0 [] s zs.now tokens (split ∙ ap (λ (x : Tokens). s ∷ x) (sym rest)) h, (omega arith, omega arith)) text same
+  bare_closed t zs rest h whole same = braced_gives at 1 (omega arith) [] t tokens zs (block_found 0 [] s zs.now tokens (split ∙ ap (λ (x : Tokens). s ∷ x) (sym rest)) h, (omega arith, omega arith)) whole same
 
 pub for_deep : (s : Token) (xs : Tokens) → Is k.For s → Fails OneStmt ends_stmt anything (Small 1) (s ∷ xs) (TooDeep s.place)
 for_deep s xs h = word_deep s xs (ap begins_stmt h) (λ more zs x r q.
     let f : Form k.For s more x zs = subst (λ (y : Kind). Form y s more x zs) h (form_of s more zs x.0 x.1 r) in
     let t : Stmt = loop_at s.place f.0 f.3.0 in
     let same : stmt_depth x.0 ≡ stmt_depth t = ap stmt_depth f.3.2 in
-    let d = stmt_depth_for s.place f.0.0 f.0.1.1 f.0.1.0 f.3.0 in
+    let d = stmt_depth_for s.place f.0.0 f.0.2 f.0.1 f.3.0 in
     let p = stmt_depth_positive f.3.0 in
     absurd (omega (arith, d, p, q, same)))

@@ -65,7 +65,7 @@ deepest_for p (Some i) (Some c) e a = search (rules, the_lemmas)
 
 -- the parts fit into a statement at most so deep
 abbrev Fit : ℕ → Turns → Type 0
-Fit most h = (or_nothing stmt_depth h.0 + 1 ≤ most) × (or_nothing deepest h.0 ≤ 200) × (depth_of_option h.1.0 ≤ 200) × (or_nothing stmt_depth h.1.1 + 1 ≤ most) × (or_nothing deepest h.1.1 ≤ 200)
+Fit most h = (or_nothing stmt_depth h.0 + 1 ≤ most) × (or_nothing deepest h.0 ≤ 200) × (depth_of_option h.1 ≤ 200) × (or_nothing stmt_depth h.2 + 1 ≤ most) × (or_nothing deepest h.2 ≤ 200)
 
 flat_fit : (most : ℕ) → 2 ≤ most → (o : Option Stmt) → Each Flat o → (or_nothing stmt_depth o + 1 ≤ most) × (or_nothing deepest o ≤ 200)
 flat_fit most room None p = (omega (arith, room), omega arith)
@@ -84,19 +84,19 @@ fit_shallow None p = tt
 fit_shallow (Some t) p = p
 
 small_fit : (most : ℕ) → 2 ≤ most → (h : Turns) → SmallTurns h → Fit most h
-small_fit most room h p = let i = flat_fit most room h.0 p.0 in let c = flat_fit most room h.1.1 p.2 in (i.0, i.1, expr_fit h.1.0 p.1, c.0, c.1)
+small_fit most room h p = let i = flat_fit most room h.0 p.0 in let c = flat_fit most room h.2 p.2 in (i.0, i.1, expr_fit h.1 p.1, c.0, c.1)
 
 fit_small : (most : ℕ) (xs zs : Tokens) (h : Turns) → OpenTurns xs h zs → Fit most h → SmallTurns h
 fit_small most xs zs h (open_turns o r) p =
-    let q : Fit most (r.0, (r.3.0, r.3.3.0)) = subst (λ (x : Turns). Fit most x) r.3.3.2 p in
+    let q : Fit most (r.0, r.3.0, r.3.3.0) = subst (λ (x : Turns). Fit most x) r.3.3.2 p in
     subst (λ (x : Turns). SmallTurns x) (sym r.3.3.2) (init_maybe_flat _ r.1 r.0 r.2 (fit_shallow r.0 q.1), fit_expr r.3.0 q.2, change_maybe_flat r.3.1 zs r.3.3.0 r.3.3.1 (fit_shallow r.3.3.0 q.4))
 
 module _ (at : Place) (most : ℕ) (room : 2 ≤ most) where
   loop_up : (h : Turns) (b : Stmt) → Fit most h → stmt_depth b + 1 ≤ most → deepest b ≤ 200 → (stmt_depth (loop_at at h b) ≤ most) × (deepest (loop_at at h b) ≤ 200)
-  loop_up h b p q r = let d = stmt_depth_for at h.0 h.1.1 h.1.0 b in let i = deepest_for at h.0 h.1.1 h.1.0 b in (omega (arith, d, p.0, p.3, q), omega (arith, i, p.1, p.2, p.4, r))
+  loop_up h b p q r = let d = stmt_depth_for at h.0 h.2 h.1 b in let i = deepest_for at h.0 h.2 h.1 b in (omega (arith, d, p.0, p.3, q), omega (arith, i, p.1, p.2, p.4, r))
 
   loop_down : (h : Turns) (b : Stmt) → stmt_depth (loop_at at h b) ≤ most → deepest (loop_at at h b) ≤ 200 → Fit most h × (stmt_depth b + 1 ≤ most) × (deepest b ≤ 200)
-  loop_down h b p q = let d = stmt_depth_for at h.0 h.1.1 h.1.0 b in let i = deepest_for at h.0 h.1.1 h.1.0 b in
+  loop_down h b p q = let d = stmt_depth_for at h.0 h.2 h.1 b in let i = deepest_for at h.0 h.2 h.1 b in
       ((omega (arith, d, p), omega (arith, i, q), omega (arith, i, q), omega (arith, d, p), omega (arith, i, q)), omega (arith, d, p), omega (arith, i, q))
 
   pub loop_begun : (xs : Tokens) (e : ParseFault) → Fails OpenTurns (λ _. anything) anything SmallTurns xs e → Formed (Looped at) most xs (Err e)

@@ -45,7 +45,7 @@ maybe_starts n R begins xs zs (Some t) r = begins xs r.1 r.0 r.2
 
 -- ---- `[change] ")"` behind what stands before it
 
-last_same : (i : Option Stmt) (e : Option Expr) → Each Flat i → Each (λ t. depth t ≤ 200) e → Same [] (λ (c : Option Stmt). (i, (e, c))) (MaybeShut sign.CLOSE_PAREN Change) (LastTurn i e) anything (Each Flat) SmallTurns
+last_same : (i : Option Stmt) (e : Option Expr) → Each Flat i → Each (λ t. depth t ≤ 200) e → Same [] (λ (c : Option Stmt). (i, e, c)) (MaybeShut sign.CLOSE_PAREN Change) (LastTurn i e) anything (Each Flat) SmallTurns
 last_same i e p q = record {
   into = λ xs zs c r. (c, r, refl);
   from = λ xs zs h r g. (r.0, r.2, r.1);
@@ -60,7 +60,7 @@ module _ (i : Option Stmt) (e : Option Expr) (p : Each Flat i) (q : Each (λ t. 
   pub last_fails : (xs : Tokens) (err : ParseFault) → Fails (MaybeShut sign.CLOSE_PAREN Change) (λ _. anything) anything (Each Shallow) xs err → Fails (LastTurn i e) (λ _. anything) anything SmallTurns xs err
   last_fails xs err f = fails_image (image_of (last_same i e p q)) anything xs err (fails_known change_maybe_flat (λ ys zs o r p. flat_shallow o p) xs err f)
 
-  pub last_found : (c : Option Stmt) (xs zs : Tokens) → Found (MaybeShut sign.CLOSE_PAREN Change) (λ _. anything) xs c zs → Found (LastTurn i e) (λ _. anything) xs (i, (e, c)) zs
+  pub last_found : (c : Option Stmt) (xs zs : Tokens) → Found (MaybeShut sign.CLOSE_PAREN Change) (λ _. anything) xs c zs → Found (LastTurn i e) (λ _. anything) xs (i, e, c) zs
   last_found c xs zs f = found_image (image_of (last_same i e p q)) f
 
 last_some : (i : Option Stmt) (e : Option Expr) (xs zs : Tokens) (h : Turns) → LastTurn i e xs h zs → Ends anything xs
@@ -75,7 +75,7 @@ later_joint i p = record {
   down = λ e ys zs h r q. let same = r.2 in (subst (λ (x : Turns). SmallTurns x) same q).1;
   close = a_sign sign.CLOSE_PAREN ∷ [];
   follows = λ zs g. refl;
-  closed = λ e zs g. ((i, (e, None)), (None, (a_sign sign.CLOSE_PAREN, refl, refl), refl), λ q. (p, q, tt));
+  closed = λ e zs g. ((i, e, None), (None, (a_sign sign.CLOSE_PAREN, refl, refl), refl), λ q. (p, q, tt));
 }
 
 all_joint : Joint (MaybeShut sign.SEMICOLON Init) LaterTurns anything anything (Each Flat) SmallTurns
@@ -84,7 +84,7 @@ all_joint = record {
   down = λ i ys zs h r q. let same = r.3.2 in (subst (λ (x : Turns). SmallTurns x) same q).0;
   close = a_sign sign.SEMICOLON ∷ a_sign sign.CLOSE_PAREN ∷ [];
   follows = λ zs g. refl;
-  closed = λ i zs g. ((i, (None, None)), (None, a_sign sign.CLOSE_PAREN ∷ zs, (a_sign sign.SEMICOLON, refl, refl), (None, (a_sign sign.CLOSE_PAREN, refl, refl), refl)), λ q. (q, tt, tt));
+  closed = λ i zs g. ((i, None, None), (None, a_sign sign.CLOSE_PAREN ∷ zs, (a_sign sign.SEMICOLON, refl, refl), (None, (a_sign sign.CLOSE_PAREN, refl, refl), refl)), λ q. (q, tt, tt));
 }
 
 pub init_maybe_flat : (xs zs : Tokens) (o : Option Stmt) → MaybeShut sign.SEMICOLON Init xs o zs → Each Shallow o → Each Flat o
@@ -113,10 +113,10 @@ module _ (i : Option Stmt) (xs ys : Tokens) (f : Found (MaybeShut sign.SEMICOLON
 
   -- all of them are read
   pub turns_read : (e : Option Expr) (c : Option Stmt) (ws : Tokens) (zs : Bor Tokens) → Found (MaybeShut sign.SEMICOLON Expression) (λ _. anything) ys e ws → Each (λ t. depth t ≤ 200) e →
-      Found (MaybeShut sign.CLOSE_PAREN Change) (λ _. anything) ws c zs.now → IsText zs.now → Each Shallow c → Gets AllTurns anything SmallTurns xs (Ok ((i, (e, c)), zs))
+      Found (MaybeShut sign.CLOSE_PAREN Change) (λ _. anything) ws c zs.now → IsText zs.now → Each Shallow c → Gets AllTurns anything SmallTurns xs (Ok ((i, e, c), zs))
   turns_read e c ws zs g q h text' p =
       let flat = read_flat sign.CLOSE_PAREN Change change_maybe_flat ws zs.now c h text' p in
-      gets_then all_joint xs ys i (Ok ((i, (e, c)), zs)) f (gets_then (later_joint i init_is_flat) ys ws e (Ok ((i, (e, c)), zs)) g (last_found i e init_is_flat q c ws zs.now h, (init_is_flat, q, flat)))
+      gets_then all_joint xs ys i (Ok ((i, e, c), zs)) f (gets_then (later_joint i init_is_flat) ys ws e (Ok ((i, e, c), zs)) g (last_found i e init_is_flat q c ws zs.now h, (init_is_flat, q, flat)))
 
 -- ---- the parenthesis
 
@@ -138,7 +138,7 @@ pub open_wrong : (tokens : Tokens) (e : ParseFault) → Lacks sign.OPEN_PAREN to
 open_wrong tokens e l =
     subst (λ (y : Tokens). Fails OpenTurns (λ _. anything) anything SmallTurns y e) (sym l.split)
     (fails_at OpenTurns anything SmallTurns [] l.first l.rest e l.refused
-    (λ zs e'. (a_sign sign.OPEN_PAREN ∷ a_sign sign.SEMICOLON ∷ a_sign sign.SEMICOLON ∷ a_sign sign.CLOSE_PAREN ∷ [], (None, (None, None)), open_turns refl (None, a_sign sign.SEMICOLON ∷ a_sign sign.CLOSE_PAREN ∷ zs, (a_sign sign.SEMICOLON, refl, refl), (None, a_sign sign.CLOSE_PAREN ∷ zs, (a_sign sign.SEMICOLON, refl, refl), (None, (a_sign sign.CLOSE_PAREN, refl, refl), refl))), e', (tt, tt, tt)))
+    (λ zs e'. (a_sign sign.OPEN_PAREN ∷ a_sign sign.SEMICOLON ∷ a_sign sign.SEMICOLON ∷ a_sign sign.CLOSE_PAREN ∷ [], (None, None, None), open_turns refl (None, a_sign sign.SEMICOLON ∷ a_sign sign.CLOSE_PAREN ∷ zs, (a_sign sign.SEMICOLON, refl, refl), (None, a_sign sign.CLOSE_PAREN ∷ zs, (a_sign sign.SEMICOLON, refl, refl), (None, (a_sign sign.CLOSE_PAREN, refl, refl), refl))), e', (tt, tt, tt)))
     (λ more zs h r e' q. open_never l.first more zs h l.other r))
 
 -- what stands behind the `(`

@@ -102,11 +102,11 @@ Tested at xs x zs = (e : Expr) × (ys : Tokens) × Test xs e ys × Branched at e
 
 -- what stands in the parentheses of a `for`
 abbrev pub Turns : Type 0
-Turns = Option Stmt × (Option Expr × Option Stmt)
+Turns = Option Stmt × Option Expr × Option Stmt
 
 -- [change] ")", behind what stands before it
 abbrev pub LastTurn : Option Stmt → Option Expr → Reads Turns
-LastTurn i e xs h zs = (c : Option Stmt) × MaybeShut sign.CLOSE_PAREN Change xs c zs × (h ≡ (i, (e, c)))
+LastTurn i e xs h zs = (c : Option Stmt) × MaybeShut sign.CLOSE_PAREN Change xs c zs × (h ≡ (i, e, c))
 
 -- [expr] ";" [change] ")", behind what stands before it
 abbrev pub LaterTurns : Option Stmt → Reads Turns
@@ -122,7 +122,7 @@ pub data OpenTurns : Tokens → Turns → Tokens → Type 0 where
 
 -- the loop with these parts
 abbrev pub loop_at : Place → Turns → Stmt → Stmt
-loop_at at h a = stmt_at at (made.For h.0 h.1.0 h.1.1 a)
+loop_at at h a = stmt_at at (made.For h.0 h.1 h.2 a)
 
 -- "(" [init] ";" [expr] ";" [change] ")" stmt, behind `for`
 abbrev pub Looped : Place → Reads (Stmt × Bool)
@@ -134,7 +134,7 @@ Flat t = (stmt_depth t ≤ 1) × (deepest t ≤ 200)
 
 -- the parts have expressions at most 200 deep
 abbrev pub SmallTurns : Turns → Type 0
-SmallTurns h = Each Flat h.0 × Each (λ e. depth e ≤ 200) h.1.0 × Each Flat h.1.1
+SmallTurns h = Each Flat h.0 × Each (λ e. depth e ≤ 200) h.1 × Each Flat h.2
 
 -- a statement behind its first token, by the kind of that
 abbrev pub Form : Kind → Token → Reads (Stmt × Bool)

@@ -3,8 +3,10 @@
 
 mod change;
 mod clause;
+mod flat;
 mod local;
 mod part;
+mod turns;
 mod types;
 
 pub use change::parse_change;
