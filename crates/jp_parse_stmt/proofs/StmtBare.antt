@@ -62,15 +62,21 @@ sign_begun s b zs e h = elim (or_cases (b == sign.OPEN_BRACE || b == sign.SEMICO
 
 kind_begun : (s : Token) (kind : Kind) (zs : Tokens) → kind_of_token s ≡ kind → IsTrue (begins_stmt kind) → Begun s zs
 kind_begun s (k.Sign b) zs e h = sign_begun s b zs e h
-kind_begun s k.If zs e h =
-    (a_sign sign.OPEN_PAREN ∷ a_number ∷ a_sign sign.CLOSE_PAREN ∷ a_sign sign.SEMICOLON ∷ an_else ∷ a_sign sign.SEMICOLON ∷ [], stmt_at s.place (made.If zero_expr (stmt_at nowhere made.Empty) (Some (stmt_at nowhere made.Empty))),
-     when_true e (test refl (expression_number (a_sign sign.CLOSE_PAREN ∷ a_sign sign.SEMICOLON ∷ an_else ∷ a_sign sign.SEMICOLON ∷ zs)) refl) (empty refl) (some_else an_else_is (empty refl)))
-kind_begun s k.While zs e h =
-    (a_sign sign.OPEN_PAREN ∷ a_number ∷ a_sign sign.CLOSE_PAREN ∷ a_sign sign.SEMICOLON ∷ [], stmt_at s.place (made.While zero_expr (stmt_at nowhere made.Empty)),
-     while_true e (test refl (expression_number (a_sign sign.CLOSE_PAREN ∷ a_sign sign.SEMICOLON ∷ zs)) refl) (empty refl))
-kind_begun s k.For zs e h =
-    (a_sign sign.OPEN_PAREN ∷ a_sign sign.SEMICOLON ∷ a_sign sign.SEMICOLON ∷ a_sign sign.CLOSE_PAREN ∷ a_sign sign.SEMICOLON ∷ [], stmt_at s.place (made.For None None None (stmt_at nowhere made.Empty)),
-     for_each e refl (no_init refl) (no_expr refl) (no_change refl) (empty refl))
+kind_begun s k.If zs e h = (
+  a_sign sign.OPEN_PAREN ∷ a_number ∷ a_sign sign.CLOSE_PAREN ∷ a_sign sign.SEMICOLON ∷ an_else ∷ a_sign sign.SEMICOLON ∷ [],
+  stmt_at s.place (made.If zero_expr (stmt_at nowhere made.Empty) (Some (stmt_at nowhere made.Empty))),
+  when_true e (test refl (expression_number (a_sign sign.CLOSE_PAREN ∷ a_sign sign.SEMICOLON ∷ an_else ∷ a_sign sign.SEMICOLON ∷ zs)) refl) (empty refl) (some_else an_else_is (empty refl)),
+)
+kind_begun s k.While zs e h = (
+  a_sign sign.OPEN_PAREN ∷ a_number ∷ a_sign sign.CLOSE_PAREN ∷ a_sign sign.SEMICOLON ∷ [],
+  stmt_at s.place (made.While zero_expr (stmt_at nowhere made.Empty)),
+  while_true e (test refl (expression_number (a_sign sign.CLOSE_PAREN ∷ a_sign sign.SEMICOLON ∷ zs)) refl) (empty refl),
+)
+kind_begun s k.For zs e h = (
+  a_sign sign.OPEN_PAREN ∷ a_sign sign.SEMICOLON ∷ a_sign sign.SEMICOLON ∷ a_sign sign.CLOSE_PAREN ∷ a_sign sign.SEMICOLON ∷ [],
+  stmt_at s.place (made.For None None None (stmt_at nowhere made.Empty)),
+  for_each e refl (no_init refl) (no_expr refl) (no_change refl) (empty refl),
+)
 kind_begun s k.Break zs e h = (a_sign sign.SEMICOLON ∷ [], stmt_at s.place made.Break, break_off e refl)
 kind_begun s k.Continue zs e h = (a_sign sign.SEMICOLON ∷ [], stmt_at s.place made.Continue, continue_on e refl)
 kind_begun s k.Return zs e h = (a_sign sign.SEMICOLON ∷ [], stmt_at s.place (made.Return None), return_from e (no_expr refl))
@@ -126,7 +132,7 @@ bare_viable zs e = (a_sign sign.CLOSE_BRACE ∷ [], [], block_end refl, e, (omeg
 pub bare_deep : (s : Token) (xs : Tokens) → (IsSign sign.CLOSE_BRACE s → ⊥) → IsTrue (begins_stmt (kind_of_token s)) → Gets (Block []) anything (SmallAll 0) (s ∷ xs) (Err (TooDeep s.place))
 bare_deep s xs other h = deep_at (Block []) anything (SmallAll 0) [] s xs bare_viable (λ more zs us r e q. bare_never s more zs us other r q)
     (λ zs e. let b = stmt_begun s (a_sign sign.CLOSE_BRACE ∷ zs) h in
-      (b.0 ++ a_sign sign.CLOSE_BRACE ∷ [], b.1 ∷ [], subst (λ (x : Tokens). Block [] (s ∷ x) (b.1 ∷ []) zs) (sym (append_assoc b.0 (a_sign sign.CLOSE_BRACE ∷ []) zs)) (block_more b.2 (block_end refl)), e, tt))
+    (b.0 ++ a_sign sign.CLOSE_BRACE ∷ [], b.1 ∷ [], subst (λ (x : Tokens). Block [] (s ∷ x) (b.1 ∷ []) zs) (sym (append_assoc b.0 (a_sign sign.CLOSE_BRACE ∷ []) zs)) (block_more b.2 (block_end refl)), e, tt))
 
 bare_nothing : (s : Token) (more zs : Tokens) (us : List Stmt) → (IsSign sign.CLOSE_BRACE s → ⊥) → (IsTrue (begins_stmt (kind_of_token s)) → ⊥) → Block [] (s ∷ more) us zs → ⊥
 bare_nothing s more zs us other none (block_end h) = other h
