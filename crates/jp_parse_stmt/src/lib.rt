@@ -11,6 +11,3 @@ mod types;
 
 pub use change::parse_change;
 pub use types::parse_type;
-
-#[cfg(test)]
-mod tests;
