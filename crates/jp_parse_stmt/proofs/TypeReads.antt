@@ -18,13 +18,6 @@ use Rattle.jp_grammar.proofs.Samples.{a_name, a_name_is, a_sign}
 use Rattle.jp_parse_stmt.specs.Behind.{ends_type}
 use Rattle.jp_parse_stmt.specs.Parts.{RefusedElement}
 
--- the end of the text is no type
-pub element_no_end : (t : Ty) (s : Token) → IsElement t s → kind_of_token s ≡ k.End → ⊥
-element_no_end ty.Int s h e = cc
-element_no_end ty.Boolean s h e = cc
-element_no_end (ty.Class class) s h e = let i = h.1 in cc
-element_no_end _ s h e = absurd h
-
 -- the type that a token is by its kind and lexeme
 abbrev elem_of : Kind → Lexeme → Option Ty
 elem_of k.Int l = Some ty.Int

@@ -1,6 +1,7 @@
 //! Reads statements and their parts from tokens.
 #![tactic(auto)]
 
+mod block;
 mod change;
 mod clause;
 mod flat;
@@ -9,5 +10,6 @@ mod part;
 mod turns;
 mod types;
 
+pub use block::parse_block;
 pub use change::parse_change;
 pub use types::parse_type;
