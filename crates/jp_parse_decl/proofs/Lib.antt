@@ -1,0 +1,10 @@
+pub mod BodyFacts
+pub mod ConstructorFacts
+pub mod Endings
+pub mod HeadFacts
+pub mod Links
+pub mod LowerFacts
+pub mod MemberFacts
+pub mod ParamFacts
+pub mod Tokens
+pub mod UnitFacts

@@ -1,0 +1,4 @@
+pub mod Answers
+pub mod Behind
+pub mod Bounds
+pub mod Parts
