@@ -1,41 +1,29 @@
 -- Members of classes and interfaces.
-use Rattle.std.proofs.Common.{◌≡◌, ℕ, ◌≤◌, ◌<◌, ◌+◌, max, Bool, true, false, not, map, List, [], ◌∷◌, ◌++◌, length, Option, Some, None, Result, Ok, Err, IsTrue, refl, sym, ap, ◌∙◌, subst, inl, inr, ◌⊎◌, arith}
+use Rattle.std.proofs.Common.{Bool, List, Option, Ok, Err, arith}
 use Rattle.std.specs.Borrow.{Bor}
 use Rattle.jp_pred.specs.declared.ty.Ty.{Ty}
-use Rattle.jp_pred.specs.declared.ty.Ty.TheVariants as ty
-use Rattle.jp_ast.specs.declared.token.Token.{Token}
-use Rattle.jp_ast.specs.declared.expr.Expr.{Expr}
 use Rattle.jp_ast.specs.declared.stmt.Stmt.{Stmt}
 use Rattle.jp_ast.specs.declared.guard.GuardExpr.{GuardExpr}
 use Rattle.jp_ast.specs.declared.decl.Param.{Param}
 use Rattle.jp_ast.specs.declared.decl.Member.{Member}
-use Rattle.jp_ast.specs.declared.decl.MemberPart.{MemberPart}
 use Rattle.jp_ast.specs.declared.decl.MemberPart.TheVariants as part
 use Rattle.jp_ast.specs.declared.sign.TheConstants as sign
-use Rattle.jp_grammar.specs.declared.kind.Kind.{Kind}
-use Rattle.jp_grammar.specs.declared.kind.Kind.TheVariants as k
 use Rattle.jp_grammar.specs.declared.fault.ParseFault.{ParseFault}
-use Rattle.jp_grammar.specs.Kinds.{Is, IsSign, IsName, Tokens, kind_of_token, is_sign_of}
-use Rattle.jp_grammar.specs.Expressions.{Args}
-use Rattle.jp_grammar.specs.Statements.{OneType, ResultType, Block, block_end, element_type, some_result}
-use Rattle.jp_grammar.specs.Declarations.{OneParam, Params, MaybeGuard, Braces, no_guard, some_guard, braces, no_params}
-use Rattle.jp_grammar.specs.Reading.{Reads, Ends, Any, SameHead, Follows, Found, Fails, Refused, Takes, Lacks}
-use Rattle.jp_grammar.specs.Depth.{greatest}
-use Rattle.jp_grammar.specs.Faults.{deepest_of_member}
+use Rattle.jp_grammar.specs.Kinds.{Tokens, is_sign_of}
+use Rattle.jp_grammar.specs.Statements.{ResultType}
+use Rattle.jp_grammar.specs.Declarations.{Params, MaybeGuard, Braces}
+use Rattle.jp_grammar.specs.Reading.{Reads, Any, Found, Fails, Takes, Lacks}
 use Rattle.jp_grammar.proofs.Sequence.{Then}
-use Rattle.jp_grammar.proofs.Choice.{Choice}
-use Rattle.jp_grammar.proofs.Outcome.{Joint, Same, fails_at}
-use Rattle.jp_grammar.proofs.Samples.{a_name, a_name_is, a_sign}
 use Rattle.jp_parse_stmt.specs.Behind.{anything, ends_type}
 use Rattle.jp_parse_decl.specs.declared.token.Label.{Label}
 use Rattle.jp_parse_decl.specs.Answers.{Yields}
 use Rattle.jp_parse_decl.specs.Behind.{ends_brace}
-use Rattle.jp_parse_decl.specs.Bounds.{SmallMaybe, SmallBlock, SmallMember, SmallPart, SmallArgs}
-use Rattle.jp_parse_decl.specs.Parts.{LabelAt, label_at, Pledge, pledge, StaticRest, static_rest, BodyRest, body_rest, MemberRest, of_field, of_static, of_body, Titled, titled, Passed, passed, ConstructorArgs, constructor_args, ConstructorBody, without_super, with_super, ConstructorAt, constructor_at, made_at, is_void}
-use Rattle.jp_parse_decl.proofs.Links.{Answer, Part, Tail, Fits, Alike, Both, Done, done, finished, last_part, linked, goes, stops, ended, then_gives, then_fails, alike_gives, same_gives, choice_gives, moved}
+use Rattle.jp_parse_decl.specs.Bounds.{SmallMaybe, SmallBlock, SmallMember}
+use Rattle.jp_parse_decl.specs.Parts.{LabelAt, Pledge, pledge, StaticRest, static_rest, BodyRest, body_rest, made_at}
+use Rattle.jp_parse_decl.proofs.Links.{Answer, Tail, Alike, Both, Done, done, finished, linked, goes, stops, ended, alike_gives}
 use Rattle.jp_parse_decl.proofs.Tokens.{SignAt, sign_at, sign_part, sign_found, sign_fails, label_part, head_name, name_type, fits_all}
 use Rattle.jp_parse_decl.proofs.ParamFacts.{result_part, params_part}
-use Rattle.jp_parse_decl.proofs.LowerFacts.{guard_part, braces_part, block_part, passed_part}
+use Rattle.jp_parse_decl.proofs.LowerFacts.{guard_part, braces_part}
 
 -- ---- result NAME "(" params ")" ";"
 

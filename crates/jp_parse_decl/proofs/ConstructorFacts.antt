@@ -1,42 +1,39 @@
 -- Constructors.
-use Rattle.std.proofs.Common.{◌≡◌, ℕ, ◌≤◌, ◌<◌, ◌+◌, max, Bool, true, false, not, map, List, [], ◌∷◌, ◌++◌, length, Option, Some, None, Result, Ok, Err, IsTrue, refl, sym, ap, ◌∙◌, subst, inl, inr, ◌⊎◌, arith, rules}
+use Rattle.std.proofs.Common.{◌≡◌, ℕ, Bool, List, [], ◌∷◌, ◌++◌, Some, None, Ok, Err, refl, ap, ◌∙◌, subst, arith, rules}
 use Rattle.std.specs.Borrow.{Bor}
 use Rattle.jp_pred.specs.declared.ty.Ty.{Ty}
 use Rattle.jp_pred.specs.declared.ty.Ty.TheVariants as ty
 use Rattle.jp_ast.specs.declared.token.Place.{Place}
 use Rattle.jp_ast.specs.declared.token.Token.{Token}
 use Rattle.jp_ast.specs.declared.expr.Expr.{Expr}
-use Rattle.jp_ast.specs.declared.stmt.Stmt.{Stmt, fold-Stmt, fold_out-Stmt, the_lemmas}
+use Rattle.jp_ast.specs.declared.stmt.Stmt.{Stmt, the_lemmas}
 use Rattle.jp_ast.specs.declared.stmt.StmtKind.TheVariants as stmt_kind
 use Rattle.jp_ast.specs.declared.decl.Param.{Param}
 use Rattle.jp_ast.specs.declared.decl.Member.{Member}
 use Rattle.jp_ast.specs.declared.decl.MemberPart.{MemberPart}
 use Rattle.jp_ast.specs.declared.decl.MemberPart.TheVariants as part
 use Rattle.jp_ast.specs.declared.sign.TheConstants as sign
-use Rattle.jp_grammar.specs.declared.kind.Kind.{Kind}
 use Rattle.jp_grammar.specs.declared.kind.Kind.TheVariants as k
 use Rattle.jp_grammar.specs.declared.fault.ParseFault.{ParseFault}
-use Rattle.jp_grammar.specs.Kinds.{Is, IsSign, IsName, Tokens, nowhere, place_of, kind_of_token, kind_of_lexeme, is_sign_of, is_sign_kind}
+use Rattle.jp_grammar.specs.Kinds.{Is, IsSign, Tokens, kind_of_lexeme, is_sign_of}
 use Rattle.jp_grammar.specs.Trees.{super_at}
-use Rattle.jp_grammar.specs.Expressions.{Expression, IsElement, Postfix, Primary, Named, NewArray, postfix, postfix_array, steps_end, number, text, truth, falsehood, nothing, receiver, parenthesis, name, uncalled, called, super_call, new_object, new_array, no_args}
-use Rattle.jp_grammar.specs.Statements.{OneType, Block, Statement, Change, Declared, block_end, block_more, block, empty, local, local_value, when_true, while_true, for_each, break_off, continue_on, return_from, change, assign, bump, run, declared, element_type, array_type}
-use Rattle.jp_grammar.specs.Declarations.{OneParam, Params, no_params}
-use Rattle.jp_grammar.specs.Reading.{Reads, Ends, Any, SameHead, Follows, Found, Fails, Refused, Takes, Lacks}
-use Rattle.jp_grammar.specs.Behind.{begins_plain}
+use Rattle.jp_grammar.specs.Expressions.{IsElement, Postfix, Primary, postfix, postfix_array, steps_end, number, text, truth, falsehood, nothing, receiver, parenthesis, name, uncalled, called, super_call, new_object, new_array, no_args}
+use Rattle.jp_grammar.specs.Statements.{OneType, Block, Statement, Change, block_end, block_more, block, empty, local, local_value, when_true, while_true, for_each, break_off, continue_on, return_from, change, assign, bump, run, declared, element_type, array_type}
+use Rattle.jp_grammar.specs.Declarations.{Params}
+use Rattle.jp_grammar.specs.Reading.{Reads, Ends, Any, Found, Fails, Takes, Lacks}
 use Rattle.jp_grammar.specs.Depth.{stmt_depth, deepest, depth}
-use Rattle.jp_grammar.specs.Faults.{deepest_of_block}
 use Rattle.jp_grammar.proofs.Sequence.{Then, found_image, fails_image}
 use Rattle.jp_grammar.proofs.Depths.{depth_super}
 use Rattle.jp_grammar.proofs.Facts.{postfix_begins}
-use Rattle.jp_grammar.proofs.Outcome.{Joint, Same, image_of, fails_at}
+use Rattle.jp_grammar.proofs.Outcome.{Same, image_of}
 use Rattle.jp_grammar.proofs.Samples.{a_name, a_name_is, a_sign}
-use Rattle.jp_parse_stmt.specs.Behind.{anything, ends_type}
+use Rattle.jp_parse_stmt.specs.Behind.{anything}
 use Rattle.jp_parse_decl.specs.declared.token.Label.{Label}
 use Rattle.jp_parse_decl.specs.Answers.{Yields}
 use Rattle.jp_parse_decl.specs.Bounds.{SmallBlock, SmallMember, SmallPart, SmallArgs}
-use Rattle.jp_parse_decl.specs.Parts.{LabelAt, label_at, Passed, passed, ConstructorArgs, constructor_args, Bare, bare, ConstructorBody, without_super, with_super, ConstructorAt, constructor_at, made_at}
-use Rattle.jp_parse_decl.proofs.Links.{Answer, Part, Tail, Fits, Alike, Alt, After, Both, Done, done, finished, last_part, linked, goes, stops, ended, then_gives, then_fails, alike_gives, alt_gives, after_same, after_gives, same_gives, moved}
-use Rattle.jp_parse_decl.proofs.Tokens.{SignAt, sign_at, sign_part, sign_found, sign_fails, label_part, head_name, name_type, fits_all}
+use Rattle.jp_parse_decl.specs.Parts.{LabelAt, Passed, ConstructorArgs, constructor_args, Bare, bare, ConstructorBody, without_super, with_super, ConstructorAt, constructor_at, made_at}
+use Rattle.jp_parse_decl.proofs.Links.{Answer, Part, Tail, Alike, Alt, After, Both, Done, done, finished, linked, goes, stops, ended, alike_gives, alt_gives, after_same, after_gives, same_gives, moved}
+use Rattle.jp_parse_decl.proofs.Tokens.{SignAt, sign_at, sign_part, sign_found, sign_fails, label_part, fits_all}
 use Rattle.jp_parse_decl.proofs.ParamFacts.{params_part}
 use Rattle.jp_parse_decl.proofs.LowerFacts.{block_part, block_begins, passed_part}
 

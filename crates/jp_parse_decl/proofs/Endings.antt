@@ -1,5 +1,5 @@
 -- Lists of tokens that end in the end of the text.
-use Rattle.std.proofs.Common.{◌≡◌, ℕ, Bool, true, false, not, ◌&&◌, IsTrue, cond, List, [], ◌∷◌, ◌++◌, refl, sym, ap, ◌∙◌, subst}
+use Rattle.std.proofs.Common.{◌≡◌, ℕ, Bool, true, false, not, ◌&&◌, IsTrue, cond, List, [], ◌∷◌, ◌++◌, refl, subst}
 use Rattle.std.specs.Str.{bytes_eq}
 use Rattle.jp_ast.specs.declared.token.Token.{Token}
 use Rattle.jp_grammar.specs.declared.kind.Kind.{Kind}

@@ -1,5 +1,5 @@
 -- Names behind `extends` and `implements`, classes and interfaces.
-use Rattle.std.proofs.Common.{◌≡◌, ℕ, ◌≤◌, ◌<◌, ◌+◌, max, Bool, true, false, not, map, List, [], ◌∷◌, ◌++◌, length, Option, Some, None, Result, Ok, Err, IsTrue, refl, sym, ap, ◌∙◌, subst, inl, inr, ◌⊎◌, arith}
+use Rattle.std.proofs.Common.{◌≡◌, ℕ, ◌<◌, Bool, true, false, List, [], ◌∷◌, ◌++◌, length, Option, Some, None, Ok, Err, IsTrue, refl, sym, ap, ◌∙◌, subst, inl, inr, arith}
 use Rattle.std.specs.Borrow.{Bor}
 use Rattle.jp_ast.specs.declared.token.Token.{Token}
 use Rattle.jp_ast.specs.declared.decl.Decl.{Decl}
@@ -8,20 +8,19 @@ use Rattle.jp_ast.specs.declared.sign.TheConstants as sign
 use Rattle.jp_grammar.specs.declared.kind.Kind.{Kind}
 use Rattle.jp_grammar.specs.declared.kind.Kind.TheVariants as k
 use Rattle.jp_grammar.specs.declared.fault.ParseFault.{ParseFault}
-use Rattle.jp_grammar.specs.Kinds.{Is, IsSign, IsName, Tokens, kind_of_token, is_sign_of, is_sign_kind}
-use Rattle.jp_grammar.specs.Declarations.{Maybe, absent, present, MoreNames, names_end, names_more, MaybeNames, no_names, some_names, MaybeSuper, no_super, some_super, Modifier, no_modifier, abstract_modifier, final_modifier, Members, Promises, Declaration, class_decl, interface_decl}
-use Rattle.jp_grammar.specs.Reading.{Reads, Ends, Any, SameHead, Follows, Found, Fails, Refused, Takes, Lacks}
+use Rattle.jp_grammar.specs.Kinds.{Is, IsSign, Tokens, kind_of_token, is_sign_of, is_sign_kind}
+use Rattle.jp_grammar.specs.Declarations.{absent, present, MoreNames, names_end, names_more, MaybeNames, no_names, some_names, MaybeSuper, no_super, some_super, no_modifier, abstract_modifier, final_modifier, Members, Promises, Declaration, class_decl, interface_decl}
+use Rattle.jp_grammar.specs.Reading.{Reads, Ends, Any, Follows, Found, Fails, Takes, Lacks}
 use Rattle.jp_grammar.proofs.Sequence.{Then, found_image, fails_image}
 use Rattle.jp_grammar.proofs.Outcome.{Joint, Same, image_of, found_nothing}
 use Rattle.jp_parse_expr.proofs.Alls.{found_fewer, fails_fewer}
-use Rattle.jp_grammar.proofs.Samples.{a_name, a_name_is, a_sign}
 use Rattle.jp_parse_stmt.specs.Behind.{anything}
 use Rattle.jp_parse_decl.specs.declared.token.Label.{Label}
 use Rattle.jp_parse_decl.specs.Answers.{Yields, Skips, TakesWord, LacksWord}
 use Rattle.jp_parse_decl.specs.Behind.{ends_brace, super_kind, ends_super}
 use Rattle.jp_parse_decl.specs.Bounds.{SmallMembers, SmallDecl}
 use Rattle.jp_parse_decl.specs.Parts.{LabelAt, label_at, NamesAt, names_at, class_of, interface_of, ClassAt, class_at, InterfaceAt, interface_at, Declared, of_class, of_interface}
-use Rattle.jp_parse_decl.proofs.Links.{Answer, Part, Tail, Fits, Alike, Alt, Both, Done, done, finished, linked, goes, stops, ended, then_gives, then_fails, alike_gives, alt_gives, same_gives, moved, found_shorter}
+use Rattle.jp_parse_decl.proofs.Links.{Answer, Part, Tail, Alike, Alt, Both, Done, done, finished, linked, goes, stops, ended, then_gives, then_fails, alike_gives, alt_gives, same_gives, moved, found_shorter}
 use Rattle.jp_parse_decl.proofs.Tokens.{sign_is, SignAt, sign_at, sign_part, sign_found, sign_fails, ClassWord, class_word, word_part, word_found, word_fails, label_part, head_name, fits_all, some_end, Optional, kept, skipped, skips_gives}
 use Rattle.jp_parse_decl.proofs.MemberFacts.{a_comma, members_part, promises_part}
 

@@ -1,10 +1,10 @@
 -- Parts that are read one behind the other, with what was read before.
-use Rattle.std.proofs.Common.{◌≡◌, ℕ, ◌≤◌, ◌<◌, arith, Bool, true, false, List, [], ◌∷◌, ◌++◌, length, Result, Ok, Err, not, IsTrue, refl, sym, ap, ◌∙◌, subst, inl, inr, ◌⊎◌, append_assoc}
+use Rattle.std.proofs.Common.{◌≡◌, ◌≤◌, ◌<◌, arith, Bool, [], ◌∷◌, ◌++◌, length, Result, Ok, Err, not, IsTrue, refl, sym, ap, subst, inl, inr, ◌⊎◌, append_assoc}
 use Rattle.std.specs.Borrow.{Bor}
 use Rattle.jp_ast.specs.declared.token.Token.{Token}
 use Rattle.jp_grammar.specs.declared.fault.ParseFault.{ParseFault}
 use Rattle.jp_grammar.specs.Kinds.{Tokens}
-use Rattle.jp_grammar.specs.Reading.{Reads, Ends, Any, Never, Viable, SameHead, Follows, Found, Fault, Fails, Tells, is_deep}
+use Rattle.jp_grammar.specs.Reading.{Reads, Ends, Any, Never, Viable, Follows, Found, Fault, Fails, Tells, is_deep}
 use Rattle.jp_grammar.proofs.Sequence.{Then, found_then, found_image, fails_first, fails_then, fails_image}
 use Rattle.jp_grammar.proofs.Choice.{Choice, found_choice, fails_choice}
 use Rattle.jp_grammar.proofs.Outcome.{Joint, Same, step_of, image_of, found_nothing}

@@ -1,34 +1,32 @@
 -- Guards, blocks and arguments, which the parsers below read.
-use Rattle.std.proofs.Common.{◌≡◌, ℕ, ◌≤◌, ◌<◌, Bool, true, false, not, List, [], ◌∷◌, ◌++◌, length, drop, Option, Some, None, Result, Ok, Err, IsTrue, refl, sym, ap, ◌∙◌, subst, inl, inr, ◌⊎◌, arith}
+use Rattle.std.proofs.Common.{◌≡◌, Bool, List, [], ◌∷◌, Option, Some, None, Ok, Err, IsTrue, refl, sym, ap, subst, inl, inr, arith}
 use Rattle.std.specs.Borrow.{Bor}
 use Rattle.jp_ast.specs.declared.token.Token.{Token}
 use Rattle.jp_ast.specs.declared.expr.Expr.{Expr}
 use Rattle.jp_ast.specs.declared.stmt.Stmt.{Stmt}
 use Rattle.jp_ast.specs.declared.guard.GuardExpr.{GuardExpr}
 use Rattle.jp_ast.specs.declared.sign.TheConstants as sign
-use Rattle.jp_grammar.specs.declared.kind.Kind.{Kind}
 use Rattle.jp_grammar.specs.declared.kind.Kind.TheVariants as k
 use Rattle.jp_grammar.specs.declared.fault.ParseFault.{ParseFault}
-use Rattle.jp_grammar.specs.Kinds.{Is, IsSign, IsName, Tokens, kind_of_token, is_sign_of, is_sign_kind}
+use Rattle.jp_grammar.specs.Kinds.{Is, Tokens, is_sign_of, is_sign_kind}
 use Rattle.jp_grammar.specs.Expressions.{Args, no_args, some_args}
 use Rattle.jp_grammar.specs.Guards.{Guard}
 use Rattle.jp_grammar.specs.Statements.{OneType, Block, Statement, Change, Declared, block_end, block_more, block, empty, local, local_value, when_true, while_true, for_each, break_off, continue_on, return_from, change, assign, bump, run, declared, element_type, array_type}
 use Rattle.jp_grammar.specs.Declarations.{MaybeGuard, Braces, no_guard, some_guard, braces}
-use Rattle.jp_grammar.specs.Reading.{Reads, Ends, Any, SameHead, Follows, Found, Fails, Refused, Takes, Lacks}
+use Rattle.jp_grammar.specs.Reading.{Reads, Ends, Any, Follows, Found, Fails, Takes, Lacks}
 use Rattle.jp_grammar.specs.Behind.{begins_plain, begins_expr, primary_kind, ends_primary}
 use Rattle.jp_grammar.proofs.Sequence.{Then, found_image, fails_image}
-use Rattle.jp_grammar.proofs.Choice.{Choice}
-use Rattle.jp_grammar.proofs.Outcome.{Joint, Same, image_of, fails_at, found_nothing}
+use Rattle.jp_grammar.proofs.Outcome.{Same, image_of, found_nothing}
 use Rattle.jp_grammar.proofs.Facts.{postfix_begins, expression_begins}
-use Rattle.jp_grammar.proofs.Samples.{a_name, a_name_is, a_sign}
+use Rattle.jp_grammar.proofs.Samples.{a_sign}
 use Rattle.jp_parse_expr.specs.BehindGuards.{ends_guard, stands_behind_guard}
 use Rattle.jp_parse_expr.proofs.Alls.{found_fewer, fails_fewer}
-use Rattle.jp_parse_stmt.specs.Behind.{anything, ends_type}
+use Rattle.jp_parse_stmt.specs.Behind.{anything}
 use Rattle.jp_parse_decl.specs.Answers.{Yields}
 use Rattle.jp_parse_decl.specs.Behind.{ends_brace}
 use Rattle.jp_parse_decl.specs.Bounds.{SmallMaybe, SmallGuard, SmallBlock, SmallArgs}
 use Rattle.jp_parse_decl.specs.Parts.{Passed, passed}
-use Rattle.jp_parse_decl.proofs.Links.{Answer, Part, Tail, Fits, Alike, Both, Done, done, finished, last_part, linked, goes, stops, ended, then_gives, then_fails, alike_gives, same_gives, choice_gives, moved}
+use Rattle.jp_parse_decl.proofs.Links.{Answer, Part, Tail, Fits, Alike, Both, Done, done, finished, last_part, linked, goes, stops, ended, alike_gives}
 use Rattle.jp_parse_decl.proofs.Tokens.{SignAt, sign_at, sign_is, sign_part, sign_found, sign_fails, fits_all, some_begin, some_end}
 
 -- ---- statements

@@ -1,12 +1,10 @@
 -- The kinds of members, and lists of members.
-use Rattle.std.proofs.Common.{◌≡◌, ℕ, ◌≤◌, ◌<◌, ◌+◌, max, Bool, true, false, not, map, List, [], ◌∷◌, ◌++◌, length, Option, Some, None, Result, Ok, Err, IsTrue, refl, sym, ap, ◌∙◌, subst, inl, inr, ◌⊎◌, arith}
-use Rattle.std.specs.Borrow.{Bor}
+use Rattle.std.proofs.Common.{◌≡◌, ℕ, ◌≤◌, ◌<◌, max, Bool, true, false, map, List, [], ◌∷◌, ◌++◌, length, Err, IsTrue, refl, ap, ◌∙◌, subst, arith}
 use Rattle.jp_pred.specs.declared.ty.Ty.{Ty}
 use Rattle.jp_pred.specs.declared.ty.Ty.TheVariants as ty
 use Rattle.jp_ast.specs.declared.token.Token.{Token}
 use Rattle.jp_ast.specs.declared.decl.Param.{Param}
 use Rattle.jp_ast.specs.declared.decl.Member.{Member}
-use Rattle.jp_ast.specs.declared.decl.MemberPart.{MemberPart}
 use Rattle.jp_ast.specs.declared.decl.MemberPart.TheVariants as part
 use Rattle.jp_ast.specs.declared.sign.TheConstants as sign
 use Rattle.jp_grammar.specs.declared.kind.Kind.{Kind}
@@ -14,23 +12,23 @@ use Rattle.jp_grammar.specs.declared.kind.Kind.TheVariants as k
 use Rattle.jp_grammar.specs.declared.fault.ParseFault.{ParseFault}
 use Rattle.jp_grammar.specs.Kinds.{Is, IsSign, IsName, Tokens, kind_of_token}
 use Rattle.jp_grammar.specs.Expressions.{IsElement}
-use Rattle.jp_grammar.specs.Statements.{OneType, ResultType, Block, block_end, element_type, array_type, no_result, some_result}
-use Rattle.jp_grammar.specs.Declarations.{Maybe, absent, present, Params, MaybeGuard, no_guard, Braces, braces, no_params, some_params, MemberBody, field, static_method, abstract_method, method_body, constructor, no_super_call, some_super_call, OneMember, default_member, public_member, private_member, Members, members_end, members_more, Promise, promise, Promises, promises_end, promises_more}
-use Rattle.jp_grammar.specs.Reading.{Reads, Ends, Any, SameHead, Follows, Found, Fails, Refused, Takes, Lacks}
+use Rattle.jp_grammar.specs.Statements.{OneType, ResultType, block_end, element_type, array_type, no_result, some_result}
+use Rattle.jp_grammar.specs.Declarations.{Maybe, absent, present, Params, no_guard, braces, no_params, some_params, MemberBody, field, static_method, abstract_method, method_body, constructor, no_super_call, some_super_call, OneMember, default_member, public_member, private_member, Members, members_end, members_more, Promise, promise, Promises, promises_end, promises_more}
+use Rattle.jp_grammar.specs.Reading.{Reads, Ends, Any, Found, Fails}
 use Rattle.jp_grammar.specs.Depth.{greatest}
 use Rattle.jp_grammar.specs.Faults.{deepest_of_member}
 use Rattle.jp_grammar.proofs.Sequence.{Then}
-use Rattle.jp_grammar.proofs.Outcome.{Joint, Same, fails_at}
+use Rattle.jp_grammar.proofs.Outcome.{Joint, Same}
 use Rattle.jp_grammar.proofs.Samples.{a_name, a_name_is, a_sign}
 use Rattle.jp_grammar.proofs.Words.{name_token}
 use Rattle.jp_parse_stmt.specs.Behind.{anything, ends_type}
 use Rattle.jp_parse_decl.specs.declared.token.Label.{Label}
 use Rattle.jp_parse_decl.specs.Answers.{Yields, Skips}
-use Rattle.jp_parse_decl.specs.Bounds.{SmallBlock, SmallMember, SmallMembers, SmallPart, SmallArgs}
-use Rattle.jp_parse_decl.specs.Parts.{LabelAt, label_at, Pledge, pledge, StaticRest, static_rest, BodyRest, body_rest, MemberRest, of_field, of_static, of_body, Titled, titled, Passed, passed, ConstructorArgs, constructor_args, ConstructorBody, without_super, with_super, ConstructorAt, constructor_at, made_at, is_void}
-use Rattle.jp_parse_decl.proofs.Links.{Answer, Part, Tail, Fits, Alike, Alt, After, Both, Done, done, finished, last_part, linked, goes, stops, ended, then_gives, then_fails, alike_gives, alt_gives, after_same, after_gives, same_gives, moved, found_shorter}
-use Rattle.jp_parse_decl.proofs.Tokens.{Optional, kept, skipped, skips_gives, SignAt, sign_at, sign_part, sign_found, sign_fails, label_part, head_name, name_type, fits_all}
-use Rattle.jp_parse_decl.proofs.ParamFacts.{result_part, type_no_void, type_begins, result_begins, params_part}
+use Rattle.jp_parse_decl.specs.Bounds.{SmallMember, SmallMembers}
+use Rattle.jp_parse_decl.specs.Parts.{LabelAt, label_at, Pledge, pledge, StaticRest, static_rest, BodyRest, body_rest, MemberRest, of_field, of_static, of_body, Titled, titled, passed, constructor_args, without_super, with_super, ConstructorAt, constructor_at, made_at, is_void}
+use Rattle.jp_parse_decl.proofs.Links.{Answer, Part, Tail, Alike, Alt, After, Both, linked, goes, stops, then_gives, then_fails, alike_gives, alt_gives, after_same, after_gives, same_gives, moved, found_shorter}
+use Rattle.jp_parse_decl.proofs.Tokens.{Optional, kept, skipped, skips_gives, label_part, head_name, name_type, fits_all}
+use Rattle.jp_parse_decl.proofs.ParamFacts.{result_part, type_begins, result_begins}
 
 -- `,`, with which no member begins
 abbrev pub a_comma : Token

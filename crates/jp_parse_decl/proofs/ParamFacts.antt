@@ -1,19 +1,18 @@
 -- Types, results and parameters.
-use Rattle.std.proofs.Common.{◌≡◌, ℕ, ◌≤◌, ◌<◌, Bool, true, false, not, List, [], ◌∷◌, ◌++◌, length, Result, Ok, Err, IsTrue, refl, sym, ap, ◌∙◌, subst, inl, inr, ◌⊎◌, arith}
+use Rattle.std.proofs.Common.{◌≡◌, ◌<◌, List, [], ◌∷◌, ◌++◌, length, Ok, Err, refl, sym, ◌∙◌, subst, arith}
 use Rattle.std.specs.Borrow.{Bor}
 use Rattle.jp_pred.specs.declared.ty.Ty.{Ty}
 use Rattle.jp_pred.specs.declared.ty.Ty.TheVariants as ty
 use Rattle.jp_ast.specs.declared.token.Token.{Token}
 use Rattle.jp_ast.specs.declared.decl.Param.{Param}
 use Rattle.jp_ast.specs.declared.sign.TheConstants as sign
-use Rattle.jp_grammar.specs.declared.kind.Kind.{Kind}
 use Rattle.jp_grammar.specs.declared.kind.Kind.TheVariants as k
 use Rattle.jp_grammar.specs.declared.fault.ParseFault.{ParseFault}
-use Rattle.jp_grammar.specs.Kinds.{Is, IsSign, IsName, Tokens, nowhere, kind_of_token}
+use Rattle.jp_grammar.specs.Kinds.{Is, IsSign, Tokens, nowhere}
 use Rattle.jp_grammar.specs.Expressions.{IsElement}
 use Rattle.jp_grammar.specs.Statements.{OneType, ResultType, element_type, array_type, no_result, some_result}
 use Rattle.jp_grammar.specs.Declarations.{OneParam, MoreParams, Params, one_param, last_param, next_param, no_params, some_params}
-use Rattle.jp_grammar.specs.Reading.{Reads, Ends, Any, SameHead, Follows, Found, Fails, Refused, Takes, Lacks}
+use Rattle.jp_grammar.specs.Reading.{Ends, Any, Found, Fails, Takes, Lacks}
 use Rattle.jp_grammar.proofs.Sequence.{Then}
 use Rattle.jp_grammar.proofs.Choice.{Choice}
 use Rattle.jp_grammar.proofs.Outcome.{Joint, Same, fails_at}
@@ -22,7 +21,7 @@ use Rattle.jp_parse_stmt.specs.Behind.{anything, ends_type}
 use Rattle.jp_parse_decl.specs.declared.token.Label.{Label}
 use Rattle.jp_parse_decl.specs.Answers.{Yields}
 use Rattle.jp_parse_decl.specs.Parts.{LabelAt, label_at, Listed, none_listed, some_listed}
-use Rattle.jp_parse_decl.proofs.Links.{Answer, Part, Tail, Fits, Alike, Both, Done, done, finished, last_part, linked, goes, stops, ended, then_gives, then_fails, alike_gives, same_gives, choice_gives, moved}
+use Rattle.jp_parse_decl.proofs.Links.{Answer, Part, Tail, Alike, Both, Done, done, finished, last_part, linked, goes, stops, ended, then_gives, then_fails, alike_gives, same_gives, choice_gives, moved}
 use Rattle.jp_parse_decl.proofs.Tokens.{SignAt, sign_at, sign_part, sign_found, sign_fails, label_part, head_name, name_type, fits_all}
 
 -- ---- types

@@ -1,5 +1,5 @@
 -- Names, signs and words that stand alone.
-use Rattle.std.proofs.Common.{◌≡◌, ℕ, ◌≤◌, ◌<◌, suc, zero, drop, Bool, true, false, not, List, [], ◌∷◌, ◌++◌, length, Result, Ok, Err, IsTrue, refl, sym, ap, ◌∙◌, subst, inl, inr, ◌⊎◌, arith}
+use Rattle.std.proofs.Common.{◌≡◌, ℕ, ◌≤◌, ◌<◌, suc, zero, drop, Bool, true, false, not, List, [], ◌∷◌, length, IsTrue, refl, sym, ap, ◌∙◌, subst, inl, inr, arith}
 use Rattle.std.proofs.lemmas.Bool.{eqb-true, eq-eqb}
 use Rattle.jp_ast.specs.declared.token.Token.{Token}
 use Rattle.jp_ast.specs.declared.token.Lexeme.TheVariants as lexeme
@@ -8,12 +8,12 @@ use Rattle.jp_grammar.specs.declared.kind.Kind.{Kind}
 use Rattle.jp_grammar.specs.declared.kind.Kind.TheVariants as k
 use Rattle.jp_grammar.specs.declared.fault.ParseFault.{ParseFault}
 use Rattle.jp_grammar.specs.Kinds.{Is, IsSign, IsName, Tokens, nowhere, kind_of_token, kind_of_word, reserved, is_sign_kind, is_sign_of}
-use Rattle.jp_grammar.specs.Reading.{Reads, Ends, Any, SameHead, Follows, Found, Fails, Refused, RefusedName, Takes, Lacks, Begins, IsText}
+use Rattle.jp_grammar.specs.Reading.{Reads, Ends, Any, Found, Fails, RefusedName, Takes, Lacks, Begins, IsText}
 use Rattle.jp_grammar.proofs.Outcome.{Same, fails_at}
 use Rattle.jp_grammar.proofs.Samples.{a_name, a_name_is, a_sign}
 use Rattle.jp_parse_stmt.specs.Behind.{anything, ends_type}
 use Rattle.jp_parse_decl.specs.declared.token.Label.{Label}
-use Rattle.jp_parse_decl.specs.Answers.{Yields, Skips, SkipsOne, SkipsNone, TakesWord, LacksWord}
+use Rattle.jp_parse_decl.specs.Answers.{Yields, Skips, TakesWord, LacksWord}
 use Rattle.jp_parse_decl.specs.Behind.{name_kind, super_word}
 use Rattle.jp_parse_decl.specs.Parts.{LabelAt, label_at}
 use Rattle.jp_parse_decl.proofs.Links.{Answer, Part, Fits, Alt, same_gives, alt_gives, moved}

@@ -1,6 +1,5 @@
 -- Lists of declarations, and units.
-use Rattle.std.proofs.Common.{◌≡◌, ℕ, ◌≤◌, ◌<◌, ◌+◌, max, Bool, true, false, not, map, List, [], ◌∷◌, ◌++◌, length, Option, Some, None, Result, Ok, Err, IsTrue, refl, sym, ap, ◌∙◌, subst, inl, inr, ◌⊎◌, append_assoc, arith}
-use Rattle.std.specs.Borrow.{Bor}
+use Rattle.std.proofs.Common.{◌≡◌, ◌≤◌, max, not, map, List, [], ◌∷◌, ◌++◌, Ok, Err, IsTrue, refl, sym, ap, subst, inl, inr, append_assoc, arith}
 use Rattle.jp_ast.specs.declared.token.Token.{Token}
 use Rattle.jp_ast.specs.declared.token.Lexeme.TheVariants as lexeme
 use Rattle.jp_ast.specs.declared.decl.Decl.{Decl}
@@ -11,9 +10,9 @@ use Rattle.jp_grammar.specs.declared.fault.ParseFault.{ParseFault}
 use Rattle.jp_grammar.specs.declared.fault.ParseFault.TheVariants.{Unexpected, Outside, TooDeep, OutOfMemory}
 use Rattle.jp_grammar.specs.Kinds.{Is, Tokens, nowhere, kind_of_token}
 use Rattle.jp_grammar.specs.Declarations.{Declaration, MoreDeclarations, unit_end, unit_more, Whole, whole}
-use Rattle.jp_grammar.specs.Reading.{Reads, Ends, IsText, Any, SameHead, Follows, Found, Fault, Fails, Tells, is_deep}
+use Rattle.jp_grammar.specs.Reading.{Reads, Ends, IsText, Follows, Found, Fault, Fails, is_deep}
 use Rattle.jp_grammar.specs.Depth.{greatest}
-use Rattle.jp_grammar.specs.Faults.{deepest_of_decl, deepest_of_unit, Parsed, Parses, IsFault, IsFirstFault, IsNowhere, IsDeeper, Says}
+use Rattle.jp_grammar.specs.Faults.{deepest_of_decl, Parses, IsFault, IsFirstFault, IsNowhere, IsDeeper}
 use Rattle.jp_grammar.proofs.Sequence.{Then}
 use Rattle.jp_grammar.proofs.Outcome.{Joint, found_nothing}
 use Rattle.jp_parse_stmt.specs.Behind.{anything}

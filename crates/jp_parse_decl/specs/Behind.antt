@@ -1,5 +1,5 @@
 -- Which tokens may stand behind the parts of a unit.
-use Rattle.std.specs.Prelude.{ℕ, Bool, true, false}
+use Rattle.std.specs.Prelude.{Bool, true, false}
 use Rattle.jp_ast.specs.declared.token.Token.{Token}
 use Rattle.jp_ast.specs.declared.sign.TheConstants as sign
 use Rattle.jp_grammar.specs.declared.kind.Kind.{Kind}

@@ -1,5 +1,5 @@
 -- No tree in a part is more than 200 deep.
-use Rattle.std.specs.Prelude.{ℕ, ◌≤◌, List, Option, map}
+use Rattle.std.specs.Prelude.{◌≤◌, List, Option, map}
 use Rattle.jp_ast.specs.declared.expr.Expr.{Expr}
 use Rattle.jp_ast.specs.declared.stmt.Stmt.{Stmt}
 use Rattle.jp_ast.specs.declared.guard.GuardExpr.{GuardExpr}

@@ -12,7 +12,6 @@ use Rattle.jp_ast.specs.declared.decl.Member.{Member}
 use Rattle.jp_ast.specs.declared.decl.MemberPart.{MemberPart}
 use Rattle.jp_ast.specs.declared.decl.MemberPart.TheVariants as part
 use Rattle.jp_ast.specs.declared.sign.TheConstants as sign
-use Rattle.jp_grammar.specs.declared.kind.Kind.{Kind}
 use Rattle.jp_grammar.specs.declared.kind.Kind.TheVariants as k
 use Rattle.jp_grammar.specs.Kinds.{Is, IsSign, IsName, Tokens}
 use Rattle.jp_grammar.specs.Expressions.{Args}

@@ -1,4 +1,4 @@
-use Rattle.std.proofs.Common.{◌≡◌, ℕ, List, [], length}
+use Rattle.std.proofs.Common.{List, [], length}
 use Rattle.jp_grammar.specs.Declarations.{Promises}
 use Rattle.jp_grammar.specs.Reading.{IsRest}
 use Rattle.jp_ast.specs.declared.decl.Member.{Member}

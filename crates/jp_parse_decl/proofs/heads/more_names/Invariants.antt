@@ -1,4 +1,4 @@
-use Rattle.std.proofs.Common.{◌≡◌, ℕ, List, [], length}
+use Rattle.std.proofs.Common.{ℕ, List, length}
 use Rattle.jp_grammar.specs.Declarations.{MoreNames}
 use Rattle.jp_grammar.specs.Reading.{Any, IsRest}
 use Rattle.jp_parse_decl.specs.Answers.{Yields}

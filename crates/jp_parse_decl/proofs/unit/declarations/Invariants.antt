@@ -1,4 +1,4 @@
-use Rattle.std.proofs.Common.{◌≡◌, ℕ, List, [], length}
+use Rattle.std.proofs.Common.{List, [], length}
 use Rattle.jp_grammar.specs.Reading.{IsRest}
 use Rattle.jp_ast.specs.declared.decl.Decl.{Decl}
 use Rattle.jp_parse_decl.specs.Answers.{Yields}
