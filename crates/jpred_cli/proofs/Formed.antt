@@ -11,8 +11,8 @@ use Rattle.std.proofs.lemmas.List.Elements.{recursion_from_All}
 use Rattle.class_form.specs.declared.constant.Const.{Const}
 use Rattle.class_form.specs.declared.constant.Const.TheVariants.{Integer, Utf8}
 use Rattle.class_form.specs.WellFormed.{WellFormed, is_spaced, text_fits, has_right_indices, is_text_byte, is_code_text, code_size, member_fits}
-use Rattle.jpred_cli.specs.Characters.{is_word_byte}
-use Rattle.jpred_cli.specs.Words.{IsName}
+use Rattle.jp_lexical.specs.Characters.{is_word_byte}
+use Rattle.jp_lexical.specs.Words.{IsName}
 use Rattle.jpred_cli.specs.Built.{fixed_constants, code_from, main_code, main_method, class_of}
 use Rattle.jpred_cli.proofs.Loads.{code_length}
 

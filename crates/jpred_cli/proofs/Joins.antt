@@ -7,10 +7,11 @@ use Rattle.jp_outside.specs.Faults.{Rose}
 use Rattle.jp_outside.specs.Bytes.{AppendsFront}
 use Rattle.jp_outside.specs.Files.{Files, put_known, OthersStay}
 use Rattle.class_form.specs.declared.class_file.ClassFile.{ClassFile}
-use Rattle.jpred_cli.specs.declared.ending.Ending.{Ending}
-use Rattle.jpred_cli.specs.declared.ending.Ending.TheVariants.{Done, NoCommand, NotYet, Missing, UnitFault, ClassFault, OutputFault, OutOfMemory}
-use Rattle.jpred_cli.specs.Form.{Literal, value_of}
-use Rattle.jpred_cli.specs.Lines.{class_file_name}
+use Rattle.cli_text.specs.declared.ending.Ending.{Ending}
+use Rattle.cli_text.specs.declared.ending.Ending.TheVariants.{Done, NoCommand, Refused, Missing, UnitFault, ClassFault, OutputFault, OutOfMemory}
+use Rattle.print_form.specs.declared.literal.Literal.{Literal}
+use Rattle.print_form.specs.Form.{value_of}
+use Rattle.cli_text.specs.Lines.{class_file_name}
 use Rattle.jpred_cli.specs.Outcome.{outside, HasBegun, meaning, Did}
 use Rattle.jpred_cli.specs.Steps.{UnitRead, ClassPut, ClassRan}
 
@@ -32,7 +33,7 @@ did_not_put main unit f0 f1 f2 s0 s1 s2 out q numbers ns OutOfMemory read put =
     inl (same_outside f0 f2 s0 s2 out out q q (put.0 ∙ read.4.0) (put.1 ∙ read.4.1) refl refl)
 did_not_put main unit f0 f1 f2 s0 s1 s2 out q numbers ns Done read put = absurd put
 did_not_put main unit f0 f1 f2 s0 s1 s2 out q numbers ns NoCommand read put = absurd put
-did_not_put main unit f0 f1 f2 s0 s1 s2 out q numbers ns NotYet read put = absurd put
+did_not_put main unit f0 f1 f2 s0 s1 s2 out q numbers ns (Refused refusal) read put = absurd put
 did_not_put main unit f0 f1 f2 s0 s1 s2 out q numbers ns Missing read put = absurd put
 did_not_put main unit f0 f1 f2 s0 s1 s2 out q numbers ns UnitFault read put = absurd put
 did_not_put main unit f0 f1 f2 s0 s1 s2 out q numbers ns OutputFault read put = absurd put
@@ -58,7 +59,7 @@ did_run main unit f0 f1 f2 s0 s1 s2 out out' q q' numbers ns ms file OutputFault
 did_run main unit f0 f1 f2 s0 s1 s2 out out' q q' numbers ns ms file OutOfMemory e d read put ran =
     inr (begun main unit f0 f1 f2 s0 s1 s2 out out' q q' numbers ns file e read put (subst (λ l. AppendsFront out out' (flat_map signed_decimal l)) (d ∙ sym e) ran.0), ran.1)
 did_run main unit f0 f1 f2 s0 s1 s2 out out' q q' numbers ns ms file NoCommand e d read put ran = absurd ran
-did_run main unit f0 f1 f2 s0 s1 s2 out out' q q' numbers ns ms file NotYet e d read put ran = absurd ran
+did_run main unit f0 f1 f2 s0 s1 s2 out out' q q' numbers ns ms file (Refused refusal) e d read put ran = absurd ran
 did_run main unit f0 f1 f2 s0 s1 s2 out out' q q' numbers ns ms file Missing e d read put ran = absurd ran
 did_run main unit f0 f1 f2 s0 s1 s2 out out' q q' numbers ns ms file UnitFault e d read put ran = absurd ran
 did_run main unit f0 f1 f2 s0 s1 s2 out out' q q' numbers ns ms file ClassFault e d read put ran = absurd ran

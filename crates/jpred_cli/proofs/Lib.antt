@@ -1,14 +1,8 @@
-pub mod Numbers
-pub mod Tokens
-pub mod Lexed
-pub mod Literals
-pub mod Statements
-pub mod Programs
 pub mod CodeSteps
 pub mod Prints
 pub mod Runs
-pub mod Fronts
 pub mod Loads
 pub mod Formed
+pub mod Units
 pub mod Joins
 pub mod Answering

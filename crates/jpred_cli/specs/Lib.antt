@@ -1,10 +1,4 @@
-pub mod Characters
-pub mod Words
-pub mod Form
-pub mod Reading
-pub mod Body
 pub mod Built
-pub mod Lines
 pub mod Outcome
 pub mod Steps
 pub mod Answer

@@ -5,11 +5,14 @@ use Rattle.std.specs.Io.KnownBytes.{append_known}
 use Rattle.jp_outside.specs.Faults.{Rose}
 use Rattle.jp_outside.specs.Bytes.{AppendsFront}
 use Rattle.jp_outside.specs.Files.{Files, Finds, put_known, OthersStay}
-use Rattle.jpred_cli.specs.declared.ending.Ending.{Ending}
-use Rattle.jpred_cli.specs.declared.ending.Ending.TheVariants.{Done, NoCommand, NotYet, Missing, UnitFault, ClassFault, OutputFault, OutOfMemory}
-use Rattle.jpred_cli.specs.Words.{Request, Go, IsRequest}
-use Rattle.jpred_cli.specs.Form.{Literal, IsProgram, value_of}
-use Rattle.jpred_cli.specs.Lines.{class_file_name, Reports}
+use Rattle.cli_text.specs.declared.ending.Ending.{Ending}
+use Rattle.cli_text.specs.declared.ending.Ending.TheVariants.{Done, NoCommand, Refused, Missing, UnitFault, ClassFault, OutputFault, OutOfMemory}
+use Rattle.cli_text.specs.Words.{Request, Go, IsRequest}
+use Rattle.print_form.specs.declared.literal.Literal.{Literal}
+use Rattle.print_form.specs.Form.{value_of}
+use Rattle.cli_text.specs.declared.refusal.Refusal.{Refusal}
+use Rattle.cli_text.specs.Programs.{IsOnlyProgram, IsOnlyRefusal}
+use Rattle.cli_text.specs.Lines.{class_file_name, Reports}
 
 -- what a command can change: the store's files and its faults, what the output took and its faults
 pub record Outside : Type 0 where
@@ -30,17 +33,17 @@ AskNothing words = (request : Request) → IsRequest words request → ⊥
 abbrev pub meaning : List Literal → List ℕ
 meaning literals = flat_map (λ literal. signed_decimal (value_of literal)) literals
 
--- the store has the unit, and its text is the program of these literals
+-- the store has the unit, and its text is the program of these literals, and nothing else
 pub record HasProgram (files : Option Files) (main unit : List ℕ) (literals : List Literal) : Type 0 where
   pub text : List ℕ
   pub found : Finds files unit (Some text)
-  pub program : IsProgram main text literals
+  pub read : IsOnlyProgram main text literals
 
--- the store has the unit, and its text is no program of the form
-pub record HasNoProgram (files : Option Files) (main unit : List ℕ) : Type 0 where
+-- the store has the unit, and its text is refused so, and not otherwise
+pub record HasRefusal (files : Option Files) (main unit : List ℕ) (refusal : Refusal) : Type 0 where
   pub text : List ℕ
   pub found : Finds files unit (Some text)
-  pub none : (literals : List Literal) → IsProgram main text literals → ⊥
+  pub read : IsOnlyRefusal main text refusal
 
 -- the class file was put, and a front part of the program's meaning was written
 pub record HasBegun (main unit : List ℕ) (old new : Outside) : Type 0 where
@@ -57,7 +60,7 @@ Did main unit old new Done =
     (literals : List Literal) × HasProgram old.files main unit literals
     × (bytes : List ℕ) × (new ≡ record old { files = put_known old.files (class_file_name main) bytes; out = append_known old.out (meaning literals) })
 Did main unit old new NoCommand = ⊥
-Did main unit old new NotYet = HasNoProgram old.files main unit × (new ≡ old)
+Did main unit old new (Refused refusal) = HasRefusal old.files main unit refusal × (new ≡ old)
 Did main unit old new Missing = Finds old.files unit None × (new ≡ old)
 Did main unit old new UnitFault = Rose old.store_faults new.store_faults × (new ≡ record old { store_faults = new.store_faults })
 Did main unit old new ClassFault =
@@ -71,7 +74,7 @@ Did main unit old new OutOfMemory = (new ≡ old) ⊎ (HasBegun main unit old ne
 abbrev pub Ended : List (List ℕ) → List ℕ → List ℕ → Outside → Outside → Ending → Type 0
 Ended words main unit old new NoCommand = AskNothing words × (new ≡ old)
 Ended words main unit old new Done = IsRequest words (Go main unit) × Did main unit old new Done
-Ended words main unit old new NotYet = IsRequest words (Go main unit) × Did main unit old new NotYet
+Ended words main unit old new (Refused refusal) = IsRequest words (Go main unit) × Did main unit old new (Refused refusal)
 Ended words main unit old new Missing = IsRequest words (Go main unit) × Did main unit old new Missing
 Ended words main unit old new UnitFault = IsRequest words (Go main unit) × Did main unit old new UnitFault
 Ended words main unit old new ClassFault = IsRequest words (Go main unit) × Did main unit old new ClassFault

@@ -9,12 +9,13 @@ use Rattle.jp_outside.specs.Files.{Files, Finds, put_known, OthersStay}
 use Rattle.class_form.specs.declared.class_file.ClassFile.{ClassFile}
 use Rattle.jvm_step.specs.declared.value.End.{End}
 use Rattle.jvm_step.specs.declared.value.End.TheVariants.{Done as EndDone, Trap, Cut, ReadFault, WriteFault, BadCode}
-use Rattle.jpred_cli.specs.declared.ending.Ending.{Ending}
-use Rattle.jpred_cli.specs.declared.ending.Ending.TheVariants.{Done, NoCommand, NotYet, Missing, UnitFault, ClassFault, OutputFault, OutOfMemory}
+use Rattle.cli_text.specs.declared.ending.Ending.{Ending}
+use Rattle.cli_text.specs.declared.ending.Ending.TheVariants.{Done, NoCommand, Refused, Missing, UnitFault, ClassFault, OutputFault, OutOfMemory}
 use Rattle.jpred_cli.specs.Built.{class_of}
-use Rattle.jpred_cli.specs.Form.{Literal, value_of}
-use Rattle.jpred_cli.specs.Lines.{class_file_name}
-use Rattle.jpred_cli.specs.Outcome.{HasProgram, HasNoProgram}
+use Rattle.print_form.specs.declared.literal.Literal.{Literal}
+use Rattle.print_form.specs.Form.{value_of}
+use Rattle.cli_text.specs.Lines.{class_file_name}
+use Rattle.jpred_cli.specs.Outcome.{HasProgram, HasRefusal}
 
 -- the store is as it was
 abbrev pub StoreStays : Option Files → Option Files → ℕ → ℕ → Type 0
@@ -24,7 +25,7 @@ StoreStays files files' faults faults' = (files' ≡ files) × (faults' ≡ faul
 abbrev pub UnitRead : List ℕ → List ℕ → Option Files → Option Files → ℕ → ℕ → Result (Vec ℤ Global) Ending → Type 0
 UnitRead main unit files files' faults faults' (Ok numbers) =
     (literals : List Literal) × HasProgram files main unit literals × (numbers.items ≡ map value_of literals) × (length numbers.items ≤ 200) × StoreStays files files' faults faults'
-UnitRead main unit files files' faults faults' (Err NotYet) = HasNoProgram files main unit × StoreStays files files' faults faults'
+UnitRead main unit files files' faults faults' (Err (Refused refusal)) = HasRefusal files main unit refusal × StoreStays files files' faults faults'
 UnitRead main unit files files' faults faults' (Err Missing) = Finds files unit None × StoreStays files files' faults faults'
 UnitRead main unit files files' faults faults' (Err UnitFault) = Rose faults faults' × (files' ≡ files)
 UnitRead main unit files files' faults faults' (Err OutOfMemory) = StoreStays files files' faults faults'
@@ -41,7 +42,7 @@ ClassPut main numbers files files' faults faults' (Err ClassFault) = OthersStay 
 ClassPut main numbers files files' faults faults' (Err OutOfMemory) = StoreStays files files' faults faults'
 ClassPut main numbers files files' faults faults' (Err Done) = ⊥
 ClassPut main numbers files files' faults faults' (Err NoCommand) = ⊥
-ClassPut main numbers files files' faults faults' (Err NotYet) = ⊥
+ClassPut main numbers files files' faults faults' (Err (Refused refusal)) = ⊥
 ClassPut main numbers files files' faults faults' (Err Missing) = ⊥
 ClassPut main numbers files files' faults faults' (Err UnitFault) = ⊥
 ClassPut main numbers files files' faults faults' (Err OutputFault) = ⊥
@@ -52,7 +53,7 @@ ClassRan numbers out out' faults faults' Done = (out' ≡ append_known out (flat
 ClassRan numbers out out' faults faults' OutputFault = AppendsFront out out' (flat_map signed_decimal numbers) × Rose faults faults'
 ClassRan numbers out out' faults faults' OutOfMemory = AppendsFront out out' (flat_map signed_decimal numbers) × (faults' ≡ faults)
 ClassRan numbers out out' faults faults' NoCommand = ⊥
-ClassRan numbers out out' faults faults' NotYet = ⊥
+ClassRan numbers out out' faults faults' (Refused refusal) = ⊥
 ClassRan numbers out out' faults faults' Missing = ⊥
 ClassRan numbers out out' faults faults' UnitFault = ⊥
 ClassRan numbers out out' faults faults' ClassFault = ⊥

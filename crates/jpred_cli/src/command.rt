@@ -2,16 +2,15 @@ ghost use Rattle.std.specs.Prelude.{◌≡◌, ◌≤◌, length, IfOk, MatchRes
 ghost use Rattle.jp_outside.specs.Bytes.{AppendsFront};
 ghost use Rattle.jvm_step.specs.Run.{WriteCause};
 ghost use Rattle.jpred_cli.specs.Built.{class_of};
-ghost use Rattle.jpred_cli.specs.Words.{IsName};
-ghost use Rattle.jpred_cli.specs.Lines.{class_file_name};
+ghost use Rattle.jp_lexical.specs.Words.{IsName};
+ghost use Rattle.cli_text.specs.Lines.{class_file_name};
 ghost use Rattle.jpred_cli.specs.Outcome.{Did, outside};
 ghost use Rattle.jpred_cli.specs.Steps.{UnitRead, ClassPut, ClassRan, Printed, printed};
 
-use crate::Ending;
 use crate::class_builder::class_with_prints;
-use crate::form::read_program;
 use class_form::ClassFile;
 use class_writer::write_class;
+use cli_text::{Ending, read_program};
 use jp_outside::{Sink, Source, Store, StoreErr};
 use jp_pred::Name;
 use jvm_load::load;
@@ -56,7 +55,6 @@ fn read_unit<S: Store>(
     unit: &str,
     store: &mut S,
 ) -> Result<Vec<i32>, Ending>
-    requires { IsName main.now }
     ensures { UnitRead main.now unit.now (S.files store.old) (S.files store.new) (S.faults store.old) (S.faults store.new) result }
 {
     let text = match store.get(alloc, unit) {
@@ -65,11 +63,7 @@ fn read_unit<S: Store>(
         Err(StoreErr::Failed) => return Err(Ending::UnitFault),
         Err(StoreErr::OutOfMemory) => return Err(Ending::OutOfMemory),
     };
-    match read_program(alloc, main, text.as_slice()) {
-        Ok(Some(numbers)) => Ok(numbers),
-        Ok(None) => Err(Ending::NotYet),
-        Err(AllocError) => Err(Ending::OutOfMemory),
-    }
+    read_program(alloc, main, text.as_slice())
 }
 
 /// Builds the class file of the numbers' program and puts it into the store.

@@ -94,8 +94,8 @@ fn prints_run(rt: HostRuntime) -> Result<(), Fail> {
 fn other_units_are_refused(rt: HostRuntime) -> Result<(), Fail> {
     let unended: &[u8] = b"class Main { static void main() { Io.print(7) } }";
     let rows: [(&[u8], &str, u8, &[u8]); 3] = [
-        (b"", "m.jp", 3, b"m.jp:1:1: NotYet\n"),
-        (unended, "m.jp", 3, b"m.jp:1:1: NotYet\n"),
+        (b"", "m.jp", 3, b"m.jp:1:1: Unexpected\n"),
+        (unended, "m.jp", 3, b"m.jp:1:47: Unexpected\n"),
         (ONE, "x.jp", 6, b"missing x.jp\n"),
     ];
     for (text, unit, status, line) in rows {
@@ -167,6 +167,136 @@ fn two_hundred_prints_run(rt: HostRuntime) -> Result<(), Fail> {
     let written = vec![in alloc; b'1'; 200]?;
     expect(&rt, alloc, &words, most, 0, &written, b"")?;
     let more = over_one_file(alloc, "m.jp", ones(alloc, 201)?.as_bytes(), [0; 3])?;
-    expect(&rt, alloc, &words, more, 3, b"", b"m.jp:1:1: NotYet\n")?;
+    expect(&rt, alloc, &words, more, 3, b"", b"m.jp:1:2635: NotYet\n")?;
+    Ok(())
+}
+
+#[test]
+fn other_texts_of_programs_run(rt: HostRuntime) -> Result<(), Fail> {
+    let rows: [(&str, &str); 6] = [
+        (
+            "class Main{static void main(){Io.print(-0);Io.print(2147483647);}}",
+            "02147483647",
+        ),
+        (
+            "\t\n\x0c\r class\tMain\n{\rstatic\x0cvoid  main\n(\n)\n{\nIo\n.\nprint\t(\r\n-\n12\n)\n;\n}\n}\n",
+            "-12",
+        ),
+        (
+            "// one\nclass /* of */ Main { static void main() { /**/ Io.print(1); } } // end",
+            "1",
+        ),
+        (
+            "class Main { static void main() { Io.print(0x7f); Io.print(-0X10); Io.print(0xFFFFFFFF); } }",
+            "127-16-1",
+        ),
+        (
+            "class Main { static void main() { (Io).print((7)); Io.print(-(2147483648)); } }",
+            "7-2147483648",
+        ),
+        (
+            "public class Main { public static void main() { Io.print(3); } }",
+            "3",
+        ),
+    ];
+    for (text, out) in rows {
+        let devices = over_one_file(rt.alloc(), "m.jp", text.as_bytes(), [0; 3])?;
+        let words = ["go", "Main", "m.jp"];
+        expect(&rt, rt.alloc(), &words, devices, 0, out.as_bytes(), b"")?;
+    }
+    Ok(())
+}
+
+/// Whether the unit of a class with this name is refused with this rest of a line.
+fn is_refused(
+    rt: &impl Abort,
+    alloc: Global,
+    main: &str,
+    text: &str,
+    rest: &str,
+) -> Result<(), Fail> {
+    let devices = over_one_file(alloc, "m.jp", text.as_bytes(), [0; 3])?;
+    let line = format!(in alloc; "m.jp:{rest}\n")?;
+    expect(
+        rt,
+        alloc,
+        &["go", main, "m.jp"],
+        devices,
+        3,
+        b"",
+        line.as_bytes(),
+    )?;
+    Ok(())
+}
+
+#[test]
+fn faults_have_their_places(rt: HostRuntime) -> Result<(), Fail> {
+    let rows: [(&str, &str); 5] = [
+        ("class Main {\n  # }", "2:3: BadByte"),
+        (
+            "class Main { static void main() { Io.print(007); } }",
+            "1:44: BadNumber",
+        ),
+        ("class A { String s = \"a\n\"; }", "1:22: OpenText"),
+        (
+            "class A { int f() { switch (1) { } return 0; } }",
+            "1:21: Outside switch",
+        ),
+        ("class Main {", "1:13: Unexpected"),
+    ];
+    for (text, rest) in rows {
+        is_refused(&rt, rt.alloc(), "Main", text, rest)?;
+    }
+    Ok(())
+}
+
+#[test]
+fn other_units_are_not_yet_run(rt: HostRuntime) -> Result<(), Fail> {
+    let rows: [(&str, &str, &str); 12] = [
+        ("Main", "class Other { static void main() { } }", "1:7"),
+        ("Io", "class Io { static void main() { } }", "1:7"),
+        ("Main", "class Main { }", "1:7"),
+        (
+            "Main",
+            "class Main { static void main() { } } class B { }",
+            "1:45",
+        ),
+        (
+            "Main",
+            "class Main {\n  static void main() { }\n  int f;\n}",
+            "3:7",
+        ),
+        ("Main", "class Main { void main() { } }", "1:19"),
+        ("Main", "class Main { static void main(int x) { } }", "1:35"),
+        (
+            "Main",
+            "class Main { static void main() { int x; } }",
+            "1:35",
+        ),
+        (
+            "Main",
+            "class Main { static void main() { Io.println(7); } }",
+            "1:35",
+        ),
+        (
+            "Main",
+            "class Main { static void main() { Io.print(2147483648); } }",
+            "1:44",
+        ),
+        (
+            "Main",
+            "class Main { static void main() { Io.print(-x); } }",
+            "1:45",
+        ),
+        (
+            "Main",
+            "class Main { static void main() { Io.print(7, 8); } }",
+            "1:47",
+        ),
+    ];
+    for (main, text, place) in rows {
+        let rest = format!(in rt.alloc(); "{place}: NotYet")?;
+        is_refused(&rt, rt.alloc(), main, text, &rest)?;
+    }
     Ok(())
 }

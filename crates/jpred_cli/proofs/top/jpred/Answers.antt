@@ -1,4 +1,4 @@
-use Rattle.jpred_cli.proofs.Answering.{statuses, no_command, runs, refuses, misses}
+use Rattle.jpred_cli.proofs.Answering.{statuses, no_command, runs, refuses, shows, refused, misses}
 use Rattle.jpred_cli.proofs.top.jpred.Goals as goal
 
 pub returns-clause-statuses : goal.returns-clause-statuses
@@ -15,3 +15,9 @@ returns-clause-refuses g c = refuses _ _ _ _ _ _ _ _ c.answer.ensures.answers
 
 pub returns-clause-misses : goal.returns-clause-misses
 returns-clause-misses g c = misses _ _ _ _ _ _ _ _ c.answer.ensures.answers
+
+pub returns-clause-shows : goal.returns-clause-shows
+returns-clause-shows g c = shows _ _ _ _ _ _ _ _ c.answer.ensures.answers
+
+pub returns-clause-refused : goal.returns-clause-refused
+returns-clause-refused g c = λ three. refused _ _ _ _ _ _ _ _ c.answer.ensures.answers three

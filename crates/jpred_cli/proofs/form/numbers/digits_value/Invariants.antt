@@ -1,6 +1,0 @@
-use Rattle.std.proofs.Common.{◌≡◌, take}
-use Rattle.std.specs.Str.Parse.{AllDigits, digits_value}
-use Rattle.jpred_cli.proofs.form.numbers.digits_value.Given as goal
-
-abbrev pub invariant-loop-digit : goal.invariant-loop-digit
-invariant-loop-digit l = record { each : AllDigits 10 (take l.digit-index l.digits); value : l.value ≡ digits_value 10 (take l.digit-index l.digits) }
