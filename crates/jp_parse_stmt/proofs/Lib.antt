@@ -1,6 +1,5 @@
 pub mod Branches
 pub mod Changes
-pub mod Endings
 pub mod FormReads
 pub mod Inits
 pub mod LocalLines
