@@ -4,4 +4,3 @@
 mod round_trip;
 
 pub use round_trip::printed_and_read;
-

@@ -69,7 +69,12 @@ fn told(alloc: Global, fault: &ReadFault) -> anyhow::Result<String> {
         ReadFault::Parse(SyntaxFault { place, kind }) => match kind {
             SyntaxKind::Unexpected => at(alloc, *place, "Unexpected", ""),
             SyntaxKind::TooDeep => at(alloc, *place, "TooDeep", ""),
-            SyntaxKind::Outside(word) => at(alloc, *place, "Outside ", str::from_utf8(word.bytes())?),
+            SyntaxKind::Outside(word) => at(
+                alloc,
+                *place,
+                "Outside ",
+                str::from_utf8(word.bytes())?,
+            ),
         },
         ReadFault::OutOfMemory => bail!("want of memory"),
     }
