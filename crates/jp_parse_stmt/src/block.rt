@@ -244,8 +244,9 @@ fn otherwise(
     ensures gives { Elsed place test yes most tokens.now result }
     ensures rest { IfOk result (λ x. IsRest tokens.now x.1.now) }
 {
-    let (first, rest) = front(tokens);
-    match kind_of(first) {
+    let (next, rest) = front(tokens);
+    let kind = kind_of(next);
+    match kind {
         Kind::Else => {
             let (no, behind) = stmt(alloc, rest, most - 1)?;
             let no = Some(no);

@@ -75,17 +75,17 @@ branches-returns-clause-gives t c =
 pub otherwise-returns-in_err-no-in-Else-clause-gives : goal.otherwise-returns-in_err-no-in-Else-clause-gives
 otherwise-returns-in_err-no-in-Else-clause-gives t c =
     let p = err_from_is_err_and c.from_residual.result c.from_residual.ensures.1 in
-    let h : Is k.Else c.front.result.0.now = sym c.kind_of.ensures ∙ c.in-Else.is in
+    let h : Is k.Else c.front.result.0.now = sym c.kind_of-kind.ensures ∙ c.in-Else.is in
     rw (p.1, p.2) (else_fails c.args.place c.args.test c.args.most c.requires.test c.requires.room c.args.yes c.front.result.0.now c.front.result.1.now c.args.tokens.now c.in_err-no-in-Else.field-0.0 c.requires.depth c.requires.deepest c.front.ensures.split h c.in_err-no-in-Else.ensures.gives)
 
 pub otherwise-returns-in_ok-tree-in-Else-clause-gives : goal.otherwise-returns-in_ok-tree-in-Else-clause-gives
 otherwise-returns-in_ok-tree-in-Else-clause-gives t c =
-    let h : Is k.Else c.front.result.0.now = sym c.kind_of.ensures ∙ c.in-Else.is in
+    let h : Is k.Else c.front.result.0.now = sym c.kind_of-kind.ensures ∙ c.in-Else.is in
     else_gives c.args.place c.args.test c.args.most c.requires.test c.requires.room c.args.yes c.in_ok-no-in-Else.no c.in_ok-tree-in-Else.tree c.front.result.0.now c.front.result.1.now c.args.tokens.now c.in_ok-no-in-Else.behind c.requires.depth c.requires.deepest c.front.ensures.split h c.in_ok-no-in-Else.ensures.gives c.in_ok-tree-in-Else.ensures
 
 pub otherwise-returns-in_ok-tree-in_default : goal.otherwise-returns-in_ok-tree-in_default
 otherwise-returns-in_ok-tree-in_default t c = record {
-  gives = else_none c.args.place c.args.test c.args.most c.requires.test c.requires.room c.args.yes c.in_ok-tree-in_default.tree c.front.result.0.now c.front.result.1.now c.args.tokens.now c.args.tokens c.requires.depth c.requires.deepest c.front.ensures.split (λ h. c.in_default.not-Else (c.kind_of.ensures ∙ h)) refl c.in_ok-tree-in_default.ensures;
+  gives = else_none c.args.place c.args.test c.args.most c.requires.test c.requires.room c.args.yes c.in_ok-tree-in_default.tree c.front.result.0.now c.front.result.1.now c.args.tokens.now c.args.tokens c.requires.depth c.requires.deepest c.front.ensures.split (λ h. c.in_default.not-Else (c.kind_of-kind.ensures ∙ h)) refl c.in_ok-tree-in_default.ensures;
   rest = (c.requires.text, omega arith);
 }
 
