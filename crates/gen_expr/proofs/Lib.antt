@@ -1,0 +1,11 @@
+pub mod Arms
+pub mod Cores
+pub mod Forms
+pub mod Judging
+pub mod Layers
+pub mod Rows
+pub mod Steps
+pub mod Tests
+pub mod Unaries
+pub mod Walks
+pub mod Wholes
