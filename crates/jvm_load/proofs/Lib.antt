@@ -10,3 +10,6 @@ pub mod Found
 pub mod Stable
 pub mod Growth
 pub mod Placed
+pub mod Numbers
+pub mod Counted
+pub mod Before

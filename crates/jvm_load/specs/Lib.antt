@@ -5,4 +5,5 @@ pub mod Lines
 pub mod Texts
 pub mod Fields
 pub mod Above
+pub mod Places
 pub mod Tables

@@ -6,7 +6,7 @@ ghost use Rattle.jvm_load.specs.FileClasses.{class_text_at, classes_of};
 ghost use Rattle.jvm_load.specs.Above.{IsJoined, HoldsAbove, AreAbove};
 
 use crate::names::{class_text, find_class, super_place};
-use crate::program::Positions;
+use crate::number_set::NumberSet;
 use class_form::ClassFile;
 use std::alloc::{AllocError, Global};
 
@@ -104,13 +104,13 @@ fn find_above(alloc: Global, files: &[ClassFile], at: u32) -> Result<Vec<u32>, A
     Ok(met)
 }
 
-pub(crate) fn all_above(alloc: Global, files: &[ClassFile]) -> Result<Vec<Positions>, AllocError>
+pub(crate) fn all_above(alloc: Global, files: &[ClassFile]) -> Result<Vec<NumberSet>, AllocError>
     requires { length files.now < 2 ^ 32 }
     ensures { IfOk result (λ lists. AreAbove (classes_of files.now) (length files.now) lists.items) }
 {
     let mut lists = Vec::new(alloc);
     for at in 0..files.len() {
-        lists.push(Positions::new(find_above(alloc, files, at as u32)?))?;
+        lists.push(NumberSet::new(find_above(alloc, files, at as u32)?))?;
     }
     Ok(lists)
 }

@@ -8,9 +8,11 @@ ghost use Rattle.jvm_load.specs.FileClasses.{class_of, classes_of};
 ghost use Rattle.jvm_load.specs.Loadable.{IsLoadable, IsLoadableFile};
 ghost use Rattle.jvm_load.specs.Fields as spec;
 ghost use Rattle.jvm_load.specs.Fields.{member_role, first_of, found_at, IsAmongFirst};
+ghost use Rattle.jvm_load.specs.Places.{IsRanked, AreRanked};
 
 use crate::Program;
 use crate::names::{is_static_member, text};
+use crate::program::Positions;
 use class_form::{ClassFile, MemberInfo};
 use jp_store::{ClassAt, Kind, Value, Values};
 use std::alloc::{AllocError, Global};
@@ -159,7 +161,7 @@ fn count_fields(wants_static: bool, members: &[MemberInfo]) -> usize
 }
 
 // How many fields of each object the class at a position declares.
-fn own_count(files: &[ClassFile], at: u32) -> usize
+pub(crate) fn own_count(files: &[ClassFile], at: u32) -> usize
     requires { IsLoadable files.now }
     ensures count { result ≡ length (classes.own_part false (classes_of files.now) at) }
     ensures most { result < 2 ^ 32 }
@@ -192,11 +194,13 @@ fn offset_in(files: &[ClassFile], class: u32, line: &[u32]) -> Option<usize>
 // A field of a file, the i-th, where it is static as wanted and has this descriptor.
 fn fitted_in(
     file: &ClassFile,
+    ranks: &[u32],
     wants_static: bool,
     descriptor: &[u8],
     at: u32,
     i: u32,
 ) -> Option<FieldPlace>
+    requires { IsRanked file.now.fields ranks.now }
     ensures { option_map found_at result ≡ option_and_then (spec.fitted_in wants_static descriptor.now at i file.now) (slice_get file.now.fields i) }
 {
     let member = file.fields.get(i as usize)?;
@@ -204,28 +208,30 @@ fn fitted_in(
         return None;
     }
     let kind = kind_of(text(file, member.descriptor))?;
-    let (before, _) = file.fields.as_slice().split_at(i as usize);
     Some(FieldPlace {
         class: at,
-        slot: count_fields(wants_static, before) as u32,
+        slot: ranks[i as usize],
         kind,
     })
 }
 
 fn fitted(
     files: &[ClassFile],
+    ranks: &[Positions],
     wants_static: bool,
     descriptor: &[u8],
     at: u32,
     i: u32,
 ) -> Option<FieldPlace>
+    requires { AreRanked files.now (length files.now) ranks.now }
     ensures field { (class name : List ℕ) → option_map found_at result
         ≡ option_and_then (classes.fitted wants_static (record { class = class; name = name; descriptor = descriptor.now }) (classes_of files.now) at i)
         (slice_get (classes.own_fields (classes_of files.now) at) i) }
     ensures within { IfSome result (λ place. place.class < length files.now) }
 {
     let file = files.get(at as usize)?;
-    fitted_in(file, wants_static, descriptor, at, i)
+    let ranks = &ranks[at as usize];
+    fitted_in(file, ranks.as_slice(), wants_static, descriptor, at, i)
 }
 
 impl Program {
@@ -244,7 +250,7 @@ impl Program {
     {
         let at = self.class(class)?;
         let (at, i) = self.find_field(at, name)?;
-        fitted(self.files(), wants_static, descriptor, at, i)
+        fitted(self.files(), self.ranks(), wants_static, descriptor, at, i)
     }
 
     /// Where an object of a class holds a field, or `None` where it has no such field.
@@ -258,6 +264,20 @@ impl Program {
         }
     }
 
+    // How many values of an object of a class stand before those of another one.
+    fn offset_of(&self, at: u32, class: u32) -> Option<usize>
+        requires within { at < length self.now }
+        requires class_within { class < length self.now }
+        ensures offset { result ≡ classes.offset_in (classes_of self.now) class (reverse (classes.line (classes_of self.now) at)) }
+        ensures most { IfSome result (λ n. n ≤ length (classes.line (classes_of self.now) at) * 4294967295) }
+    {
+        // Where no class is above itself, each stands in every line as far from the top as in its own.
+        if let Some(offset) = self.offset_at(at, class) {
+            return Some(offset);
+        }
+        offset_in(self.files(), class, self.line(at))
+    }
+
     fn slot_below(&self, at: u32, field: FieldPlace) -> Option<usize>
         requires { field.class < length self.now }
         ensures { result ≡ classes.slot_of (classes_of self.now) (Listed at) (found_at field) }
@@ -265,7 +285,7 @@ impl Program {
         if at as usize >= self.files().len() {
             return None;
         }
-        let offset = offset_in(self.files(), field.class, self.line(at))?;
+        let offset = self.offset_of(at, field.class)?;
         Some(offset + field.slot as usize)
     }
 

@@ -6,7 +6,10 @@ mod descriptor;
 mod fields;
 mod look_up;
 mod names;
+mod number_set;
+mod offsets;
 mod program;
+mod ranks;
 mod tables;
 #[cfg(test)]
 mod tests;

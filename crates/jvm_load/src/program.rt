@@ -1,13 +1,17 @@
-ghost use Rattle.std.specs.Prelude.{◌≡◌, ◌<◌, [], ◌∷◌, length, IfOk, IfSome, slice_get};
+ghost use Rattle.std.specs.Prelude.{◌≡◌, ◌<◌, ◌≤◌, ◌*◌, [], ◌∷◌, length, reverse, IfOk, IfSome, Some, slice_get};
 ghost use Rattle.std.specs.Option.{option_map};
-ghost use Rattle.jp_store.specs.Classes.{line, is_below, is_below_in};
+ghost use Rattle.jp_store.specs.Classes.{line, is_below, is_below_in, offset_in};
 ghost use Rattle.jvm_load.specs.FileClasses.{classes_of};
 ghost use Rattle.jvm_load.specs.Lines.{lines_of};
 ghost use Rattle.jvm_load.specs.Loadable.{IsLoadable, IsLoadableFile};
+ghost use Rattle.jvm_load.specs.Places.{AreRanked};
 ghost use Rattle.jvm_load.specs.Tables.{key_of, key_cmp, first_entry, found_above, IsTable};
 ghost use Rattle.jvm_load.specs.declared.tables.Listing.TheVariants.{OfClasses, OfMethods, OfFields};
 
 use crate::above::all_above;
+use crate::number_set::NumberSet;
+use crate::offsets::{Offsets, all_offsets};
+use crate::ranks::all_ranks;
 use crate::tables::{Listing, Table, TableEntry, all_tables, table_of};
 use crate::walk::walk_up;
 use class_form::ClassFile;
@@ -48,10 +52,12 @@ impl Positions {
 pub struct Program {
     files: Vec<ClassFile>,
     lines: Vec<Positions>,
-    above: Vec<Positions>,
+    above: Vec<NumberSet>,
     names: Table,
     methods: Vec<Table>,
     fields: Vec<Table>,
+    ranks: Vec<Positions>,
+    offsets: Vec<Offsets>,
 }
 
 impl Model for Program {
@@ -60,6 +66,7 @@ impl Model for Program {
     ghost use Rattle.jvm_load.specs.FileClasses.{classes_of};
     ghost use Rattle.jvm_load.specs.Lines.{lines_of};
     ghost use Rattle.jvm_load.specs.Above.{AreAbove};
+    ghost use Rattle.jvm_load.specs.Places.{AreRanked, AreOffsetLists};
     ghost use Rattle.jvm_load.specs.Loadable.{IsLoadable};
     ghost use Rattle.jvm_load.specs.Tables.{key_of, key_cmp, first_entry, IsTable, AreTables};
     ghost use Rattle.jvm_load.specs.declared.tables.Listing.TheVariants.{OfClasses, OfMethods, OfFields};
@@ -73,7 +80,9 @@ impl Model for Program {
         × AreAbove (classes_of p.files.items) (length p.files.items) p.above.items
         × IsTable key_cmp (key_of OfClasses p.files.items) (first_entry OfClasses p.files.items (0 ∷ [])) p.names
         × AreTables OfMethods p.files.items (length p.files.items) p.methods.items
-        × AreTables OfFields p.files.items (length p.files.items) p.fields.items };
+        × AreTables OfFields p.files.items (length p.files.items) p.fields.items
+        × AreRanked p.files.items (length p.files.items) p.ranks.items
+        × AreOffsetLists (classes_of p.files.items) (length p.files.items) p.offsets.items };
 }
 
 impl Program {
@@ -100,6 +109,32 @@ impl Program {
     {
         let line = &self.lines[at as usize];
         line.as_slice()
+    }
+
+    // How many values of an object of a class stand before those of another one, where that one stands in the class's
+    // line as far from the top as in its own; `None` elsewhere.
+    pub(crate) fn offset_at(&self, at: u32, class: u32) -> Option<usize>
+        requires within { at < length self.now }
+        requires class_within { class < length self.now }
+        ensures offset { IfSome result (λ n. offset_in (classes_of self.now) class (reverse (line (classes_of self.now) at)) ≡ Some n) }
+        ensures most { IfSome result (λ n. n ≤ length (line (classes_of self.now) at) * 4294967295) }
+    {
+        let from_top = self.line(class).len().checked_sub(1)?;
+        let line = self.line(at);
+        let place = line.len().checked_sub(1)?.checked_sub(from_top)?;
+        let found = *line.get(place)?;
+        if found != class {
+            return None;
+        }
+        let offsets = &self.offsets[at as usize];
+        offsets.as_slice().get(from_top).copied()
+    }
+
+    // For each file, how many of its fields before each are static as it is.
+    pub(crate) fn ranks(&self) -> &[Positions]
+        ensures { AreRanked self.now (length self.now) result.now }
+    {
+        self.ranks.as_slice()
     }
 
     // The classes by name.
@@ -148,7 +183,7 @@ impl Program {
             return at == up;
         }
         let above = &self.above[at as usize];
-        above.as_slice().contains(&up)
+        above.contains(up)
     }
 }
 
@@ -174,6 +209,8 @@ pub fn load(alloc: Global, files: &[ClassFile]) -> Result<Program, AllocError>
         copies.as_slice(),
         lines.as_slice(),
     )?;
+    let ranks = all_ranks(alloc, copies.as_slice())?;
+    let offsets = all_offsets(alloc, copies.as_slice(), lines.as_slice())?;
     Ok(Program {
         files: copies,
         lines,
@@ -181,6 +218,8 @@ pub fn load(alloc: Global, files: &[ClassFile]) -> Result<Program, AllocError>
         names,
         methods,
         fields,
+        ranks,
+        offsets,
     })
 }
 

@@ -1,4 +1,4 @@
-use Rattle.std.proofs.Common.{ℕ, ◌+◌, List, [], ◌∷◌, ◌++◌, sym, ap, ◌∙◌, subst}
+use Rattle.std.proofs.Common.{ℕ, ◌+◌, List, sym, ◌∙◌, subst}
 use Rattle.jvm_load.specs.FileClasses.{classes_of}
 use Rattle.jvm_load.specs.Above.{AreAbove}
 use Rattle.jvm_load.proofs.Reach.{above_none, above_more}
@@ -13,5 +13,5 @@ pub loop-at-preserved : goal.loop-at-preserved
 loop-at-preserved c =
     let classes = classes_of c.args.files.now in
     let lists = c.loop-at.lists.items in
-    subst (λ (l : List (List ℕ)). AreAbove classes (c.loop-at.at + 1) l) (sym (c.in_ok-push.ensures.items ∙ ap (λ (m : List ℕ). lists ++ m ∷ []) c.new.ensures))
-    (above_more classes c.loop-at.at lists c.in_ok-find_above.field-0.items c.loop-at.invariant c.in_ok-find_above.ensures)
+    subst (λ (l : List (List ℕ)). AreAbove classes (c.loop-at.at + 1) l) (sym c.in_ok-push.ensures.items)
+    (above_more classes c.loop-at.at lists c.new.result c.loop-at.invariant (λ up. c.new.ensures up ∙ c.in_ok-find_above.ensures up))

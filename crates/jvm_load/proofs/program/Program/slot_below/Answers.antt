@@ -15,21 +15,11 @@ returns-then-at-files c =
     let k : c.args.field.class < length (classes_of files) = omega (arith, count, c.requires) in
     ap (option_map (λ n. n + c.args.field.slot)) (sym (no_offset (classes_of files) c.args.field.class c.args.at h k))
 
-pub offset_in-requires-clause-short : goal.offset_in-requires-clause-short
-offset_in-requires-clause-short c =
-    let files = c.args.self.now in
-    let count = length-map files class_of in
-    let same = ap length c.files-2.ensures.files in
-    let long = ap length c.line.ensures in
-    let most : length (line (classes_of files) c.args.at) ≤ length (classes_of files) = line_from_length (length (classes_of files)) (classes_of files) [] c.args.at in
-    omega (arith, count, same, long, most)
-
 pub overflow_add-result : goal.overflow_add-result
 overflow_add-result c =
     let files = c.args.self.now in
     let count = length-map files class_of in
     let same = ap length c.files.ensures.files in
-    let long = ap length c.line.ensures in
     let most : length (line (classes_of files) c.args.at) ≤ length (classes_of files) = line_from_length (length (classes_of files)) (classes_of files) [] c.args.at in
     let small : c.args.field.slot < 4294967296 = search rules in
-    omega (arith, count, same, long, most, c.files.ensures.loadable.count, c.in_ok-offset.ensures.most)
+    omega (arith, count, same, most, c.files.ensures.loadable.count, c.in_ok-offset.ensures.most)
