@@ -1,0 +1,6 @@
+mod Alone
+mod Bare
+mod Compiles
+mod Doing
+mod Makes
+mod Wholly
