@@ -1,0 +1,3 @@
+pub mod Lines
+pub mod Rooms
+pub mod Walked

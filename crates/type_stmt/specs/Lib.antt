@@ -1,0 +1,4 @@
+pub mod Kinds
+pub mod Settling
+pub mod Typing
+pub mod Walking
