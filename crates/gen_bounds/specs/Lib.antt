@@ -1,0 +1,4 @@
+pub mod Nodes
+pub mod Sizes
+pub mod Limits
+pub mod Laws
