@@ -25,8 +25,10 @@ pub record HasFewAliases (head : Iface) (m : TypedMember) : Type 0 where
   pub aliases : length (aliases_of head m.part) ≤ 8
   pub steps : list_all is_near (aliases_of head m.part) ≡ true
 
--- the limits on a member: its nodes, its aliases and their steps. How many parameters and locals it has makes its code no longer
+-- The limits on a member: its aliases and their steps, and its nodes. A member has at most 1,200 written nodes, each of which is
+-- resolved to two at most: a field or a method of the own class that is named alone is one of `this`. How many parameters and
+-- locals it has makes its code no longer
 pub record IsWithinLimits (head : Iface) (m : TypedMember) : Type 0 where
-  pub nodes : member_nodes m ≤ 1200
+  pub nodes : member_nodes m ≤ 2400
   pub aliases : length (aliases_of head m.part) ≤ 8
   pub steps : list_all is_near (aliases_of head m.part) ≡ true
