@@ -1,0 +1,4 @@
+pub mod CountedForms
+pub mod SeenNodes
+pub mod FlowNodes
+pub mod UnitNodes
