@@ -1,0 +1,5 @@
+pub mod Aliases
+pub mod Counting
+pub mod Locals
+pub mod Members
+pub mod Texts
