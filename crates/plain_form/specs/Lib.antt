@@ -1,0 +1,4 @@
+pub mod Families
+pub mod Forms
+pub mod Main
+pub mod Places
