@@ -1,5 +1,5 @@
 -- Where a program may begin.
-use Rattle.std.specs.Prelude.{◌==◌, Bool, true, false, not, ◌&&◌, length, codes}
+use Rattle.std.specs.Prelude.{Bool, true, false, not, ◌&&◌, List, [], ◌∷◌, codes}
 use Rattle.std.specs.List.{list_any}
 use Rattle.jp_pred.specs.declared.ty.Ty.{Ty}
 use Rattle.jp_pred.specs.declared.ty.Ty.TheVariants as ty
@@ -7,6 +7,7 @@ use Rattle.jp_pred.specs.Names.{Word, same}
 use Rattle.jp_ast.specs.declared.decl.SourceUnit.{SourceUnit}
 use Rattle.jp_ast.specs.declared.decl.Decl.{Decl}
 use Rattle.jp_ast.specs.declared.decl.Member.{Member}
+use Rattle.jp_ast.specs.declared.decl.Param.{Param}
 use Rattle.jp_ast.specs.declared.decl.MemberPart.{MemberPart}
 use Rattle.jp_ast.specs.declared.decl.MemberPart.TheVariants as part
 
@@ -14,13 +15,17 @@ abbrev pub is_void : Ty → Bool
 is_void ty.Void = true
 is_void _ = false
 
+abbrev pub takes_nothing : List Param → Bool
+takes_nothing [] = true
+takes_nothing (p ∷ ps) = false
+
 abbrev pub is_static_void : MemberPart → Bool
 is_static_void (part.Static result block) = is_void result
 is_static_void _ = false
 
 -- `static void main()`, which isn't private
 abbrev pub is_main : Member → Bool
-is_main m = not m.is_private && same m.name (codes "main") && length m.params == 0 && is_static_void m.part
+is_main m = not m.is_private && same m.name (codes "main") && takes_nothing m.params && is_static_void m.part
 
 -- a class of that name, with such a method
 abbrev pub declares_main : Word → Decl → Bool

@@ -1,6 +1,6 @@
 ghost use Rattle.std.specs.Prelude.{◌≡◌};
 ghost use Rattle.std.specs.List.{list_any};
-ghost use Rattle.plain_form.specs.Main.{is_static_void, is_main, declares_main, has_main};
+ghost use Rattle.plain_form.specs.Main.{takes_nothing, is_static_void, is_main, declares_main, has_main};
 
 use jp_ast::{Decl, Member, MemberPart, SourceUnit};
 use jp_pred::{Name, Ty};
@@ -39,8 +39,14 @@ fn is_main(member: &Member) -> bool
 {
     !member.is_private
         && member.name.bytes() == b"main".as_slice()
-        && member.params.len() == 0
+        && takes_nothing(member)
         && is_static_void(&member.part)
+}
+
+fn takes_nothing(member: &Member) -> bool
+    ensures { result ≡ takes_nothing member.now.params }
+{
+    member.params.is_empty()
 }
 
 fn is_static_void(part: &MemberPart) -> bool
