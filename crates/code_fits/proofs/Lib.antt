@@ -1,0 +1,6 @@
+pub mod Marks
+pub mod Labels
+pub mod LabelledExpressions
+pub mod LabelledStatements
+pub mod LabelledMembers
+pub mod Lines

@@ -1,0 +1,6 @@
+//! The code of members is as the writer of class files asks.
+#![tactic(auto)]
+
+mod laws;
+
+pub use laws::{code_is_labelled, code_lands, code_marks_once};
