@@ -1,5 +1,5 @@
 -- The code of members has labels of its own, beside the two where jumps out of loops would go.
-use Rattle.std.proofs.Common.{◌≡◌, ℕ, ◌+◌, ◌≤◌, Bool, true, false, List, [], ◌∷◌, ◌++◌, map, Option, Some, None, refl, sym, ap, ◌∙◌, arith}
+use Rattle.std.proofs.Common.{◌≡◌, ℕ, ◌+◌, ◌≤◌, Bool, true, false, not, List, [], ◌∷◌, ◌++◌, map, Option, Some, None, refl, sym, ap, ◌∙◌, arith}
 use Rattle.std.specs.Prelude.{nat_lt, cond, slice_get}
 use Rattle.std.specs.List.{list_any}
 use Rattle.std.proofs.lemmas.Bool.{false≢true, lt-ltb, ltb-true}
@@ -103,6 +103,10 @@ own_marked hier head m =
     let c = member_code hier head m in
     marked_below 2 c.next c.items (λ l. (member_own l (λ k. nat_lt k c.next ≡ true) hier head m).counted)
 
+denied : (b : Bool) → not b ≡ true → b ≡ false
+denied true h = absurd (false≢true h)
+denied false h = refl
+
 -- there are two labels at least
 second_below : (next : ℕ) → below 1 2 ≤ below 1 next → nat_lt 1 next ≡ true
 second_below next h = by_test (nat_lt 1 next) refl where
@@ -125,7 +129,8 @@ once hier head m =
     marked_once 2 c.next c.items (λ l. (member_own l (λ k. nat_lt k c.next ≡ true) hier head m).counted)
 
 pub lands : CodeLands
-lands hier head m h =
+lands hier head m e =
+    let h = denied (list_any jumps_out m.block) e in
     let c = member_code hier head m in
     let P : ℕ → Type 0 = λ l. is_marked_in (lines_of c.items) l ≡ true in
     let own = member_own 0 P hier head m in

@@ -4,3 +4,6 @@ pub mod LabelledExpressions
 pub mod LabelledStatements
 pub mod LabelledMembers
 pub mod Lines
+pub mod LinesOfExpressions
+pub mod LinesOfStatements
+pub mod LinesOfMembers

@@ -30,7 +30,8 @@ use Rattle.code_asm.specs.Written.{IsMeant, AreMeant}
 use Rattle.gen_body.specs.Names.{are_nameable, is_result}
 use Rattle.gen_body.proofs.Signatures.{signatures_read_back}
 use Rattle.gen_body.specs.Codes.{Codes, plain, void, judged, choose_truth, and_test, or_test, choice, is_short, push_int, construction, named, family, virtual_call, called, make_array, Place, LocalAt, FieldAt, StaticAt, ElementAt, Nowhere, Literal, Zero, Nil, Anything, Coded, prefix_codes, infix_codes, compare_both, compare_codes, local_codes, array_codes, local_spot}
-use Rattle.code_fits.specs.Encodable.{is_in_reach, has_few, is_ordinary, is_distinct}
+use Rattle.code_fits.specs.Encodable.{is_in_reach, has_few}
+use Rattle.code_fits.specs.Ordinary.{is_ordinary, is_distinct}
 
 pub denied : (b : Bool) → not b ≡ true → b ≡ false
 denied true h = absurd (false≢true h)
@@ -155,18 +156,22 @@ Meant (CallsInterface key signature) = signature_of key.descriptor ≡ Some sign
 Meant (Branch jump label) = Unit {0}
 Meant (Mark label) = Unit {0}
 
--- Each item has an opcode. Under a premise, each names its method with the signature of its descriptor
-module _ (F : Type 0) where
+-- what is so of both under a premise
+pub both_if : (T : Type 0) (a b : Bool) → (T → (a && b) ≡ true) → (T → a ≡ true) × (T → b ≡ true)
+both_if T a b h = (λ t. (both a b (h t)).0, λ t. (both a b (h t)).1)
+
+-- Under one premise each item has an opcode; under another each names its method with the signature of its descriptor
+module _ (G F : Type 0) where
   abbrev pub Fit : Item → Type 0
-  Fit item = (has_opcode (line_of item) ≡ true) × (F → Meant item)
+  Fit item = (G → has_opcode (line_of item) ≡ true) × (F → Meant item)
 
   abbrev pub Each : List Item → Type 0
   Each [] = Unit {0}
   Each (item ∷ items) = Fit item × Each items
 
-  pub have_opcodes : (items : List Item) → Each items → list_all has_opcode (lines_of items) ≡ true
-  have_opcodes [] h = refl
-  have_opcodes (item ∷ items) h = ap (λ b. b && list_all has_opcode (lines_of items)) h.0.0 ∙ have_opcodes items h.1
+  pub have_opcodes : (items : List Item) → G → Each items → list_all has_opcode (lines_of items) ≡ true
+  have_opcodes [] g h = refl
+  have_opcodes (item ∷ items) g h = ap (λ b. b && list_all has_opcode (lines_of items)) (h.0.0 g) ∙ have_opcodes items g h.1
 
   pub are_meant : (items : List Item) → F → Each items → AreMeant items
   are_meant [] f h = tt
@@ -188,33 +193,33 @@ module _ (F : Type 0) where
   pub plain_fits : (items : List Item) (need next : ℕ) → Each items → FitCodes (plain items need next)
   plain_fits items need next h = record {
     value = h;
-    test = λ want label. joined items (Branch _ label ∷ []) h ((refl, λ f. tt), tt);
-    done = joined items _ h ((refl, λ f. tt), tt);
+    test = λ want label. joined items (Branch _ label ∷ []) h ((λ g. refl, λ f. tt), tt);
+    done = joined items _ h ((λ g. refl, λ f. tt), tt);
   }
 
   pub void_fits : (items : List Item) (need next : ℕ) → Each items → FitCodes (void items need next)
   void_fits items need next h =
-      let v = joined items _ h ((refl, λ f. tt), tt) in
-      record { value = v; test = λ want label. joined _ (Branch _ label ∷ []) v ((refl, λ f. tt), tt); done = h }
+      let v = joined items _ h ((λ g. refl, λ f. tt), tt) in
+      record { value = v; test = λ want label. joined _ (Branch _ label ∷ []) v ((λ g. refl, λ f. tt), tt); done = h }
 
   choose_fits : (n : ℕ) → Each (choose_truth n)
-  choose_fits n = ((refl, λ f. tt), ((refl, λ f. tt), ((refl, λ f. tt), ((refl, λ f. tt), ((refl, λ f. tt), tt)))))
+  choose_fits n = ((λ g. refl, λ f. tt), ((λ g. refl, λ f. tt), ((λ g. refl, λ f. tt), ((λ g. refl, λ f. tt), ((λ g. refl, λ f. tt), tt)))))
 
   pub judged_fits : (test : Bool → ℕ → List Item) (n need next : ℕ) → ((want : Bool) (label : ℕ) → Each (test want label)) → FitCodes (judged test n need next)
   judged_fits test n need next h =
       let v = joined (test false n) (choose_truth n) (h false n) (choose_fits n) in
-      record { value = v; test = h; done = joined _ _ v ((refl, λ f. tt), tt) }
+      record { value = v; test = h; done = joined _ _ v ((λ g. refl, λ f. tt), tt) }
 
   pub called_fits : (o : Option Kind) (items : List Item) (need next : ℕ) → Each items → FitCodes (called o items need next)
   called_fits None items need next h = void_fits items need next h
   called_fits (Some kind) items need next h = plain_fits items (max need 1) next h
 
   pub choice_fits : (test : Bool → ℕ → List Item) (a b : List Item) (n : ℕ) → Each (test false n) → Each a → Each b → Each (choice test a b n)
-  choice_fits test a b n h k l = joined (test false n) _ h (joined a _ k ((refl, λ f. tt), ((refl, λ f. tt), joined b _ l ((refl, λ f. tt), tt))))
+  choice_fits test a b n h k l = joined (test false n) _ h (joined a _ k ((λ g. refl, λ f. tt), ((λ g. refl, λ f. tt), joined b _ l ((λ g. refl, λ f. tt), tt))))
 
   -- a local that is assigned to can be told
   abbrev pub PlaceFits : Place → Type 0
-  PlaceFits (LocalAt slot kind) = (is_single kind ≡ true) × (is_in_reach slot ≡ true)
+  PlaceFits (LocalAt slot kind) = (is_single kind ≡ true) × (G → is_in_reach slot ≡ true)
   PlaceFits (FieldAt key) = Unit {0}
   PlaceFits (StaticAt key) = Unit {0}
   PlaceFits (ElementAt kind) = Unit {0}
@@ -223,60 +228,59 @@ module _ (F : Type 0) where
   pub int_fits : (n : ℤ) → Fit (push_int n)
   int_fits n = by_size (is_short n) refl where
     by_size : (b : Bool) → is_short n ≡ b → Fit (cond b (Plain (PushInt n)) (Uses PushConstant (IntOf n)))
-    by_size true e = (int_opcode n e, λ f. tt)
-    by_size false e = (refl, λ f. tt)
+    by_size true e = (λ g. int_opcode n e, λ f. tt)
+    by_size false e = (λ g. refl, λ f. tt)
 
   pub truth_fits : (b : Bool) → Fit (Plain (PushInt (cond b (pos 1) (pos 0))))
-  truth_fits true = (refl, λ f. tt)
-  truth_fits false = (refl, λ f. tt)
+  truth_fits true = (λ g. refl, λ f. tt)
+  truth_fits false = (λ g. refl, λ f. tt)
 
-  pub named_fits : (use_ : ConstantUse) (class name : Word) (params : List Ty) (t : Ty) → (F → (are_nameable params && is_result t) ≡ true) → is_ordinary class name ≡ true → Fit (Uses use_ (named (method_of class name params t) params t))
+  pub named_fits : (use_ : ConstantUse) (class name : Word) (params : List Ty) (t : Ty) → (F → (are_nameable params && is_result t) ≡ true) → (F → is_ordinary class name ≡ true) → Fit (Uses use_ (named (method_of class name params t) params t))
   named_fits use_ class name params t h e =
-      (refl, λ f. let i = both (are_nameable params) (is_result t) (h f) in (signatures_read_back params t i.0 i.1, unbuilt class name params t e))
+      (λ g. refl, λ f. let i = both (are_nameable params) (is_result t) (h f) in (signatures_read_back params t i.0 i.1, unbuilt class name params t (e f)))
 
-  pub family_fits : (use_ : ConstantUse) (class name : Word) (params : List Ty) (t : Ty) → (F → (are_nameable params && is_result t) ≡ true) → is_ordinary class name ≡ true → Fit (Uses use_ (family (method_of class name params t) params t))
+  pub family_fits : (use_ : ConstantUse) (class name : Word) (params : List Ty) (t : Ty) → (F → (are_nameable params && is_result t) ≡ true) → (F → is_ordinary class name ≡ true) → Fit (Uses use_ (family (method_of class name params t) params t))
   family_fits use_ class name params t h e =
-      (refl, λ f. let i = both (are_nameable params) (is_result t) (h f) in (signatures_read_back params t i.0 i.1, unbuilt class name params t e, not_init class name e))
+      (λ g. refl, λ f. let i = both (are_nameable params) (is_result t) (h f) in (signatures_read_back params t i.0 i.1, unbuilt class name params t (e f), not_init class name (e f)))
 
-  pub virtual_fits : (is_interface : Bool) (class name : Word) (params : List Ty) (t : Ty) → (F → (are_nameable params && is_result t) ≡ true) → (has_few is_interface params && is_ordinary class name) ≡ true → Fit (virtual_call is_interface (method_of class name params t) params t)
-  virtual_fits true class name params t h e =
-      let g = both (has_few true params) (is_ordinary class name) e in
-      (few_opcode params g.0, λ f. let i = both (are_nameable params) (is_result t) (h f) in signatures_read_back params t i.0 i.1)
-  virtual_fits false class name params t h e = named_fits InvokeVirtual class name params t h (both (has_few false params) (is_ordinary class name) e).1
+  pub virtual_fits : (is_interface : Bool) (class name : Word) (params : List Ty) (t : Ty) → (F → (are_nameable params && is_result t) ≡ true) → (F → is_ordinary class name ≡ true) → (G → has_few is_interface params ≡ true) → Fit (virtual_call is_interface (method_of class name params t) params t)
+  virtual_fits true class name params t h e g =
+      (λ z. few_opcode params (g z), λ f. let i = both (are_nameable params) (is_result t) (h f) in signatures_read_back params t i.0 i.1)
+  virtual_fits false class name params t h e g = named_fits InvokeVirtual class name params t h e
 
-  pub construction_fits : (class : Word) (params : List Ty) → (F → are_nameable params ≡ true) → is_distinct class ≡ true → Fit (construction class params)
+  pub construction_fits : (class : Word) (params : List Ty) → (F → are_nameable params ≡ true) → (F → is_distinct class ≡ true) → Fit (construction class params)
   construction_fits class params h e = by_class (same class object) refl where
     by_class : (b : Bool) → same class object ≡ b → Fit (Uses InvokeSpecial (cond b (BuiltIn (record { class = object_name; name = codes "<init>"; descriptor = codes "()V" })) (named (constructor_of class params) params ty.Void)))
-    by_class true g = (refl, λ f. tt)
-    by_class false g = (refl, λ f. (signatures_read_back params ty.Void (h f) refl, made_unbuilt class params g e))
+    by_class true i = (λ g. refl, λ f. tt)
+    by_class false i = (λ g. refl, λ f. (signatures_read_back params ty.Void (h f) refl, made_unbuilt class params i (e f)))
 
   array_fits : (elements : NamedElement) → Fit (make_array elements)
-  array_fits IntElements = (refl, λ f. tt)
-  array_fits BooleanElements = (refl, λ f. tt)
-  array_fits (ClassElements name) = (refl, λ f. tt)
+  array_fits IntElements = (λ g. refl, λ f. tt)
+  array_fits BooleanElements = (λ g. refl, λ f. tt)
+  array_fits (ClassElements name) = (λ g. refl, λ f. tt)
 
   and_fits : (a b : Bool → ℕ → List Item) (skip : ℕ) → ((want : Bool) (label : ℕ) → Each (a want label)) → ((want : Bool) (label : ℕ) → Each (b want label)) → (want : Bool) (label : ℕ) → Each (and_test a b skip want label)
-  and_fits a b skip h k true label = joined (a false skip) _ (h false skip) (joined (b true label) _ (k true label) ((refl, λ f. tt), tt))
+  and_fits a b skip h k true label = joined (a false skip) _ (h false skip) (joined (b true label) _ (k true label) ((λ g. refl, λ f. tt), tt))
   and_fits a b skip h k false label = joined (a false label) _ (h false label) (k false label)
 
   or_fits : (a b : Bool → ℕ → List Item) (skip : ℕ) → ((want : Bool) (label : ℕ) → Each (a want label)) → ((want : Bool) (label : ℕ) → Each (b want label)) → (want : Bool) (label : ℕ) → Each (or_test a b skip want label)
   or_fits a b skip h k true label = joined (a true label) _ (h true label) (k true label)
-  or_fits a b skip h k false label = joined (a true skip) _ (h true skip) (joined (b false label) _ (k false label) ((refl, λ f. tt), tt))
+  or_fits a b skip h k false label = joined (a true skip) _ (h true skip) (joined (b false label) _ (k false label) ((λ g. refl, λ f. tt), tt))
 
   pub prefix_fits : (o : Option Prefix) (k : Coded) → ((n : ℕ) → FitCodes (k.codes n)) → (n : ℕ) → FitCodes (prefix_codes o k n)
   prefix_fits None k h n = plain_fits [] 0 n tt
   prefix_fits (Some Plus) k h n = plain_fits _ _ _ (h n).value
-  prefix_fits (Some Minus) k h n = plain_fits _ _ _ (joined (k.codes n).value _ (h n).value ((refl, λ f. tt), tt))
-  prefix_fits (Some Complement) k h n = plain_fits _ _ _ (joined (k.codes n).value _ (h n).value ((refl, λ f. tt), ((refl, λ f. tt), tt)))
+  prefix_fits (Some Minus) k h n = plain_fits _ _ _ (joined (k.codes n).value _ (h n).value ((λ g. refl, λ f. tt), tt))
+  prefix_fits (Some Complement) k h n = plain_fits _ _ _ (joined (k.codes n).value _ (h n).value ((λ g. refl, λ f. tt), ((λ g. refl, λ f. tt), tt)))
   prefix_fits (Some Not) k h n = judged_fits _ n _ _ (λ want label. (h (n + 2)).test (not want) label)
 
   both_fit : (references : Bool) (test : Test) (k l : Coded) → ((n : ℕ) → FitCodes (k.codes n)) → ((n : ℕ) → FitCodes (l.codes n)) → (n : ℕ) → FitCodes (compare_both references test k l n)
   both_fit references test k l h i n =
-      judged_fits _ n _ _ (λ want label. joined (k.codes (n + 2)).value _ (h (n + 2)).value (joined (l.codes (k.codes (n + 2)).next).value _ (i (k.codes (n + 2)).next).value ((refl, λ f. tt), tt)))
+      judged_fits _ n _ _ (λ want label. joined (k.codes (n + 2)).value _ (h (n + 2)).value (joined (l.codes (k.codes (n + 2)).next).value _ (i (k.codes (n + 2)).next).value ((λ g. refl, λ f. tt), tt)))
 
   compare_fits : (references : Bool) (literal : Literal) (test : Test) (k l : Coded) → ((n : ℕ) → FitCodes (k.codes n)) → ((n : ℕ) → FitCodes (l.codes n)) → (n : ℕ) → FitCodes (compare_codes references literal test k l n)
-  compare_fits false Zero test k l h i n = judged_fits _ n _ _ (λ want label. joined (k.codes (n + 2)).value _ (h (n + 2)).value ((refl, λ f. tt), tt))
-  compare_fits true Nil test k l h i n = judged_fits _ n _ _ (λ want label. joined (k.codes (n + 2)).value _ (h (n + 2)).value ((refl, λ f. tt), tt))
+  compare_fits false Zero test k l h i n = judged_fits _ n _ _ (λ want label. joined (k.codes (n + 2)).value _ (h (n + 2)).value ((λ g. refl, λ f. tt), tt))
+  compare_fits true Nil test k l h i n = judged_fits _ n _ _ (λ want label. joined (k.codes (n + 2)).value _ (h (n + 2)).value ((λ g. refl, λ f. tt), tt))
   compare_fits true Zero test k l h i n = both_fit true test k l h i n
   compare_fits true Anything test k l h i n = both_fit true test k l h i n
   compare_fits false Nil test k l h i n = both_fit false test k l h i n
@@ -284,20 +288,20 @@ module _ (F : Type 0) where
 
   pub infix_fits : (o : Option Infix) (k l : Coded) → ((n : ℕ) → FitCodes (k.codes n)) → ((n : ℕ) → FitCodes (l.codes n)) → (n : ℕ) → FitCodes (infix_codes o k l n)
   infix_fits None k l h i n = plain_fits [] 0 n tt
-  infix_fits (Some (Operates op)) k l h i n = plain_fits _ _ _ (joined (k.codes n).value _ (h n).value (joined (l.codes (k.codes n).next).value _ (i (k.codes n).next).value ((refl, λ f. tt), tt)))
+  infix_fits (Some (Operates op)) k l h i n = plain_fits _ _ _ (joined (k.codes n).value _ (h n).value (joined (l.codes (k.codes n).next).value _ (i (k.codes n).next).value ((λ g. refl, λ f. tt), tt)))
   infix_fits (Some (Compares test)) k l h i n = compare_fits (is_reference k.ty) l.literal test k l h i n
   infix_fits (Some AndThen) k l h i n = judged_fits _ n _ _ (and_fits _ _ (n + 2) (h (n + 3)).test (i (k.codes (n + 3)).next).test)
   infix_fits (Some OrElse) k l h i n = judged_fits _ n _ _ (or_fits _ _ (n + 2) (h (n + 3)).test (i (k.codes (n + 3)).next).test)
 
-  pub local_fits : (o : Option Kind) → Single o → (slot : ℕ) → is_in_reach slot ≡ true → (n : ℕ) → FitCodes (local_codes o slot n)
+  pub local_fits : (o : Option Kind) → Single o → (slot : ℕ) → (G → is_in_reach slot ≡ true) → (n : ℕ) → FitCodes (local_codes o slot n)
   local_fits None h slot e n = plain_fits [] 0 n tt
-  local_fits (Some kind) h slot e n = plain_fits _ 1 n ((load_opcode kind slot h e, λ f. tt), tt)
+  local_fits (Some kind) h slot e n = plain_fits _ 1 n ((λ g. load_opcode kind slot h (e g), λ f. tt), tt)
 
   pub local_spot_fits : (o : Option Kind) (slot n : ℕ) → Each (local_spot o slot n).items
   local_spot_fits None slot n = tt
   local_spot_fits (Some kind) slot n = tt
 
-  pub local_place : (o : Option Kind) → Single o → (slot : ℕ) → is_in_reach slot ≡ true → (n : ℕ) → PlaceFits (local_spot o slot n).place
+  pub local_place : (o : Option Kind) → Single o → (slot : ℕ) → (G → is_in_reach slot ≡ true) → (n : ℕ) → PlaceFits (local_spot o slot n).place
   local_place None h slot e n = tt
   local_place (Some kind) h slot e n = (h, e)
 

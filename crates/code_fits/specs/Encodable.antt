@@ -1,13 +1,11 @@
 -- What the rules of types say of the trees of a member, as far as the writer of class files needs it.
-use Rattle.std.specs.Prelude.{ℕ, ◌+◌, List, length, Bool, true, false, not, ◌&&◌, ◌||◌, nat_lt, nat_le, Option, slice_get, codes}
+use Rattle.std.specs.Prelude.{ℕ, ◌+◌, List, length, Bool, true, false, not, ◌&&◌, ◌||◌, nat_lt, nat_le, Option, slice_get}
 use Rattle.std.specs.List.{list_any, list_all}
 use Rattle.std.specs.Option.{option_map_or}
 use Rattle.jp_pred.specs.declared.path.Path.{Path}
 use Rattle.jp_pred.specs.declared.ty.Ty.{Ty}
-use Rattle.jp_pred.specs.Names.{Word, same}
 use Rattle.iface_codec.specs.declared.iface.Iface.{Iface}
 use Rattle.iface_codec.specs.declared.iface.IfaceMethod.{IfaceMethod}
-use Rattle.jp_store.specs.Classes.{object_name}
 use Rattle.jp_meaning.specs.declared.expr.TypedExpr.{TypedExpr, fold-TypedExpr}
 use Rattle.jp_meaning.specs.declared.expr.TypedKind.{TypedKind-F}
 use Rattle.jp_meaning.specs.declared.expr.TypedKind.TheOpen as form
@@ -27,16 +25,7 @@ is_in_reach slot = nat_lt slot 256
 abbrev pub has_few : Bool → List Ty → Bool
 has_few is_interface params = not is_interface || nat_lt (length params) 255
 
--- a method that isn't one of `Io`, and isn't called as constructors are
-abbrev pub is_ordinary : Word → Word → Bool
-is_ordinary class name = not (same class (codes "Io")) && not (same name (codes "<init>"))
-
--- a class whose name isn't what Object is called in code
-abbrev pub is_distinct : Word → Bool
-is_distinct class = not (same class object_name)
-
--- an expression of a form: its locals can be told, its calls of interfaces have few arguments, and what it calls isn't
--- built into the machine
+-- an expression of a form: its locals can be told, and its calls of interfaces have few arguments
 abbrev pub expr_step : TypedKind-F Bool Bool → Bool
 expr_step (form.Number value hex) = true
 expr_step (form.Truth value) = true
@@ -53,10 +42,10 @@ expr_step (form.Static class name) = true
 expr_step (form.Length array) = array
 expr_step (form.Index array index) = array && index
 expr_step (form.CallVirtual object class is_interface name params args) =
-    object && (list_all (λ a. a) args && (has_few is_interface params && is_ordinary class name))
-expr_step (form.CallStatic class name params args) = list_all (λ a. a) args && is_ordinary class name
-expr_step (form.CallSuper class name params args) = list_all (λ a. a) args && is_ordinary class name
-expr_step (form.New class params args) = list_all (λ a. a) args && is_distinct class
+    object && (list_all (λ a. a) args && has_few is_interface params)
+expr_step (form.CallStatic class name params args) = list_all (λ a. a) args
+expr_step (form.CallSuper class name params args) = list_all (λ a. a) args
+expr_step (form.New class params args) = list_all (λ a. a) args
 expr_step (form.NewArray elem size) = size
 expr_step (form.Print value) = value
 expr_step (form.Show text) = true
@@ -115,14 +104,17 @@ jumps_out = fold-TypedStmt Bool Bool jump_step (λ s. s.kind)
 abbrev pub has_room : IfaceMethod → Bool
 has_room method = list_all (λ (alias : Path × Ty). is_in_reach alias.0.root) method.aliases && nat_le (given_to method + length method.aliases) 256
 
--- what stands at the start of a member can be told, and isn't built into the machine
+-- what stands at the start of a member can be told
 abbrev pub start_is_encodable : Iface → TypedPart → Bool
 start_is_encodable head (part.Field at) = true
 start_is_encodable head (part.Method at) = or_so has_room (slice_get head.methods at)
-start_is_encodable head (part.Constructor at) = or_so is_distinct head.superclass
+start_is_encodable head (part.Constructor at) = true
 
--- A member whose code can be written: its start, its expressions and its statements are so, and each `break` and
--- `continue` stands in a loop
+-- each `break` and `continue` of a member stands in a loop
+abbrev pub stays_in : TypedMember → Bool
+stays_in m = not (list_any jumps_out m.block)
+
+-- a member whose code can be written: its start, its expressions, its statements and its jumps are so
 abbrev pub member_is_encodable : Iface → TypedMember → Bool
 member_is_encodable head m =
-    start_is_encodable head m.part && (list_all is_encodable m.super_args && (list_all stmt_is_encodable m.block && not (list_any jumps_out m.block)))
+    start_is_encodable head m.part && (list_all is_encodable m.super_args && (list_all stmt_is_encodable m.block && stays_in m))

@@ -1,2 +1,3 @@
 pub mod Encodable
+pub mod Ordinary
 pub mod Laws

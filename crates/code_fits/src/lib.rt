@@ -3,4 +3,7 @@
 
 mod laws;
 
-pub use laws::{code_is_labelled, code_lands, code_marks_once};
+pub use laws::{
+    code_has_opcodes, code_is_labelled, code_lands, code_marks_once, fitting_is_meant,
+    fitting_is_written,
+};
