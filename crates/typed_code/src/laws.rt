@@ -1,0 +1,16 @@
+ghost use Rattle.typed_code.specs.Laws.{TypedJumpsStandInLoops, TypedIsEncodable, TypedIsWritten};
+
+/// In a unit without a fault each `break` and `continue` stands in a loop.
+pub fn typed_jumps_stand_in_loops()
+    ensures { TypedJumpsStandInLoops }
+{}
+
+/// In a unit without a fault, whose methods have few parameters, each member with few locals is encodable.
+pub fn typed_is_encodable()
+    ensures { TypedIsEncodable }
+{}
+
+/// The lines of such a member's code can be laid out.
+pub fn typed_is_written()
+    ensures { TypedIsWritten }
+{}

@@ -1,0 +1,6 @@
+//! The code of a unit without a fault can be written.
+#![tactic(auto)]
+
+mod laws;
+
+pub use laws::{typed_is_encodable, typed_is_written, typed_jumps_stand_in_loops};
