@@ -1,6 +1,6 @@
 -- A statement without a fault has an encodable tree, where few enough variables are ever in scope and methods have few parameters.
-use Rattle.std.proofs.Common.{◌≡◌, ℕ, ◌+◌, ◌≤◌, Bool, true, false, List, [], ◌∷◌, ◌++◌, map, length, Option, Some, None, refl, sym, ap, ◌∙◌, subst, arith, length-append}
-use Rattle.std.specs.Prelude.{◌&&◌, max, if◌then◌else◌}
+use Rattle.std.proofs.Common.{◌≡◌, ℕ, ◌+◌, ◌≤◌, Bool, true, false, List, [], ◌∷◌, ◌++◌, map, Option, Some, None, refl, sym, ap, ◌∙◌, subst, arith, length-append}
+use Rattle.std.specs.Prelude.{◌&&◌, max}
 use Rattle.std.specs.List.{list_all}
 use Rattle.std.specs.Option.{option_map}
 use Rattle.std.proofs.lemmas.Bool.{lt-ltb}
@@ -25,9 +25,9 @@ use Rattle.type_rules.specs.Names.{receiver_slots}
 use Rattle.type_rules.specs.Nodes.{AtStmt}
 use Rattle.type_rules.specs.Table.{own_faults}
 use Rattle.type_rules.specs.Expressions.{part}
-use Rattle.type_rules.specs.Statements.{Flow, waiting, Step, Block, Empty, Local, If, While, For, Jump, Return, Assign, Bump, Run, step_of, declared, in_loop, count, after_init, operand, seen_option, flow_most, most_along, pushed, made_along, node_in, scope_behind, most_in, tree_of, tree_option, made_option, resolved, statement_at, flow_of, flow}
+use Rattle.type_rules.specs.Statements.{Flow, waiting, Step, Block, Empty, Local, If, While, For, Jump, Return, Assign, Bump, Run, step_of, in_loop, count, after_init, operand, seen_option, flow_most, most_along, pushed, made_along, node_in, scope_behind, most_in, tree_of, tree_option, made_option, resolved, statement_at, flow_of, flow}
 use Rattle.code_fits.specs.Encodable.{is_in_reach, is_encodable, or_so, stmt_is_encodable}
-use Rattle.typed_code.proofs.Making.{OnMade, any_then, so_then, any_map, so_map}
+use Rattle.typed_code.proofs.Making.{OnMade, so_then, so_map}
 use Rattle.typed_code.proofs.EncodableForms.{ok_block, ok_empty, ok_local, ok_if, ok_while, ok_for, ok_break, ok_continue, ok_return, ok_assign, ok_bump, ok_run}
 use Rattle.typed_code.proofs.SeenTold.{and_so, of_both, AreFew, Told, IsRoomy, part_told}
 

@@ -1,12 +1,12 @@
 -- The aliases of a guard begin at its receiver or at one of its parameters.
-use Rattle.std.proofs.Common.{◌≡◌, ℕ, ◌+◌, ◌≤◌, ◌<◌, Bool, true, false, List, [], ◌∷◌, ◌++◌, length, Option, Some, None, refl, sym, subst, arith, inl, inr}
+use Rattle.std.proofs.Common.{◌≡◌, ℕ, ◌≤◌, Bool, true, false, List, [], ◌∷◌, ◌++◌, length, Option, Some, None, refl, sym, subst, arith, inl, inr}
 use Rattle.std.specs.Prelude.{if◌then◌else◌, option_and_then}
 use Rattle.std.specs.List.{find}
 use Rattle.std.specs.Option.{option_map, option_map_or, option_or}
 use Rattle.jp_pred.specs.declared.ty.Ty.{Ty}
 use Rattle.jp_pred.specs.declared.ty.Ty.TheVariants as ty
 use Rattle.jp_pred.specs.declared.path.Path.{Path}
-use Rattle.jp_pred.specs.Names.{Word, In, here, there, same}
+use Rattle.jp_pred.specs.Names.{Word, In, same}
 use Rattle.jp_pred.specs.Paths.{root_path, extend}
 use Rattle.jp_pred.proofs.Entries.{split_in}
 use Rattle.iface_codec.specs.declared.iface.IfaceField.{IfaceField}
@@ -25,12 +25,11 @@ use Rattle.type_rules.specs.Heads.{names_class}
 use Rattle.type_rules.specs.Lookups.{field_that}
 use Rattle.type_rules.specs.Names.{variable_from}
 use Rattle.type_rules.specs.GuardPaths.{path_at, step_named, this_word, alias_of, root_of, further, step_in, step_of, steps_of, path_of}
-use Rattle.type_rules.specs.Nodes.{Node, TestsClass, AtAtom, AtPath}
+use Rattle.type_rules.specs.Nodes.{TestsClass, AtAtom, AtPath}
 use Rattle.type_rules.specs.Table.{own_faults}
-use Rattle.type_rules.specs.Guards.{Guarded, Step, unless_faulty, path_in, inner, with_aliases, alias_at, aliased, tested, behind_test, scope_behind, guarded_of, guarded}
-use Rattle.calls_fit.proofs.Named.{some_is, none_is}
+use Rattle.type_rules.specs.Guards.{Guarded, unless_faulty, path_in, inner, with_aliases, alias_at, aliased, tested, behind_test, guarded_of, guarded}
 use Rattle.typed_fits.proofs.Looking.{find_in}
-use Rattle.typed_code.proofs.Making.{OnMade, so_then, so_map}
+use Rattle.typed_code.proofs.Making.{OnMade, so_then}
 use Rattle.typed_code.proofs.SeenTold.{slots_below}
 
 module _ (n : ℕ) where

@@ -1,6 +1,6 @@
 -- In a unit without a fault each `break` and `continue` stands in a loop.
 use Rattle.std.proofs.Common.{◌≡◌, ◌+◌, Bool, true, false, List, [], ◌∷◌, ◌++◌, map, Option, Some, None, refl, sym, ap, ◌∙◌, subst, rules}
-use Rattle.std.specs.Prelude.{not, ◌&&◌, ◌||◌, cond, if◌then◌else◌, option_and_then}
+use Rattle.std.specs.Prelude.{not, ◌&&◌, ◌||◌, cond, if◌then◌else◌}
 use Rattle.std.specs.List.{list_any, list_all}
 use Rattle.std.specs.Option.{option_map, option_map_or}
 use Rattle.std.proofs.lemmas.Bool.{false≢true}
@@ -31,7 +31,7 @@ use Rattle.type_rules.specs.Expressions.{part}
 use Rattle.type_rules.specs.Statements.{Flow, waiting, Step, Block, Empty, Local, If, While, For, Jump, Return, Assign, Bump, Run, step_of, in_loop, count, after_init, operand, seen_option, pushed, made_along, node_in, scope_behind, tree_of, tree_option, made_option, resolved, statement_at, flow_of, flow}
 use Rattle.type_rules.specs.Heads.{heads_of}
 use Rattle.type_rules.specs.RulesOfDeclarations.{has_no_constructor}
-use Rattle.type_rules.specs.Units.{Opened, OpenDecl, Seat, opened, open_decl, block_part, body_scope, super_parts, made_guard, guard_of, member_from, made_member, seats, seats_of, default_constructor, with_default, made_members, made_class, made_classes, unit_in}
+use Rattle.type_rules.specs.Units.{Opened, OpenDecl, Seat, opened, open_decl, block_part, body_scope, super_parts, made_guard, guard_of, member_from, made_member, seats, seats_of, default_constructor, with_default, made_members, made_class, made_classes}
 use Rattle.type_rules.specs.Expressions.{seen_all, arguments}
 use Rattle.type_rules.proofs.Soundness.{first_kept, not_false}
 use Rattle.code_fits.specs.Encodable.{or_not, jumps_out, stays_in}

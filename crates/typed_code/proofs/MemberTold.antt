@@ -1,6 +1,6 @@
 -- A member without a fault is encodable, where it has few enough locals and methods have few parameters.
-use Rattle.std.proofs.Common.{◌≡◌, ◌⊎◌, ℕ, ◌+◌, ◌≤◌, Bool, true, false, List, [], ◌∷◌, ◌++◌, map, length, Option, Some, None, refl, sym, ap, ◌∙◌, subst, inl, inr, arith, length-append}
-use Rattle.std.specs.Prelude.{◌&&◌, not, nat_le, cond, if◌then◌else◌, is_some, option_and_then, slice_get}
+use Rattle.std.proofs.Common.{◌≡◌, ◌⊎◌, ℕ, ◌+◌, ◌≤◌, Bool, true, false, List, [], ◌∷◌, map, length, Option, Some, None, refl, sym, ap, ◌∙◌, subst, inl, inr, arith, length-append}
+use Rattle.std.specs.Prelude.{◌&&◌, not, nat_le, cond, if◌then◌else◌, is_some, slice_get}
 use Rattle.std.specs.List.{list_any, list_all, filter_map}
 use Rattle.std.specs.Option.{option_map, option_map_or}
 use Rattle.std.proofs.lemmas.Bool.{false≢true, lt-ltb, le-leb}
@@ -26,16 +26,15 @@ use Rattle.jp_meaning.specs.Classes.{is_static}
 use Rattle.type_rules.specs.declared.scope.Scope.{Scope}
 use Rattle.type_rules.specs.declared.scope.Variable.{Variable}
 use Rattle.type_rules.specs.declared.seen.Role.TheVariants as role
-use Rattle.type_rules.specs.declared.seen.Seen.{Seen}
 use Rattle.type_rules.specs.declared.guard_scope.Alias.{Alias}
 use Rattle.type_rules.specs.Heads.{field_part, constructor_part, method_part, as_field, as_constructor, as_method, as_method_with, static_kind, param_types, method}
 use Rattle.type_rules.specs.Names.{receiver_slots}
 use Rattle.type_rules.specs.Expressions.{seen_all, arguments}
 use Rattle.type_rules.specs.Statements.{waiting, operand, flow, count, most_along, made_along}
 use Rattle.type_rules.specs.Guards.{guarded}
-use Rattle.type_rules.specs.Units.{Opened, Seat, guard_part, super_part, block_part, opened, is_static_part, params_of, guard_scope, body_scope, aliases_of, super_parts, place_in, slots_of, made_guard, guard_of, member_from, made_member, entry_of}
+use Rattle.type_rules.specs.Units.{Seat, guard_part, super_part, block_part, opened, is_static_part, params_of, guard_scope, body_scope, aliases_of, super_parts, place_in, slots_of, made_guard, guard_of, member_from, made_member, entry_of}
 use Rattle.gen_body.specs.Members.{given_to}
-use Rattle.code_fits.specs.Encodable.{is_in_reach, is_encodable, stmt_is_encodable, jumps_out, stays_in, or_so, has_room, start_is_encodable, member_is_encodable}
+use Rattle.code_fits.specs.Encodable.{is_in_reach, is_encodable, stmt_is_encodable, jumps_out, or_so, has_room, start_is_encodable, member_is_encodable}
 use Rattle.typed_code.proofs.Making.{OnMade, any_then, so_then, so_map}
 use Rattle.typed_code.proofs.JumpsInLoops.{AllStay, so_in, block_stays}
 use Rattle.typed_code.proofs.SeenTold.{and_so, AreFew, AllTold, IsRoomy, arguments_told, part_told}

@@ -1,12 +1,11 @@
 -- The members of a unit without a fault are encodable, and so their lines can be laid out.
-use Rattle.std.proofs.Common.{◌≡◌, ◌⊎◌, ℕ, ◌≤◌, Bool, true, false, List, [], ◌∷◌, ◌++◌, map, Option, Some, None, refl, sym, ap, ◌∙◌, subst, inl, inr}
+use Rattle.std.proofs.Common.{◌≡◌, ◌⊎◌, ◌≤◌, Bool, true, false, List, [], ◌∷◌, ◌++◌, map, Option, Some, None, refl, sym, ap, ◌∙◌, subst, inl, inr}
 use Rattle.std.specs.Prelude.{cond, if◌then◌else◌}
 use Rattle.std.specs.List.{list_all}
 use Rattle.std.specs.Option.{option_map}
 use Rattle.jp_pred.specs.Names.{In, here, there}
 use Rattle.jp_pred.proofs.Entries.{in_append, split_in}
 use Rattle.iface_codec.specs.declared.iface.Iface.{Iface}
-use Rattle.iface_codec.specs.declared.iface.IfaceMethod.{IfaceMethod}
 use Rattle.jp_ast.specs.declared.decl.Decl.{Decl}
 use Rattle.jp_ast.specs.declared.decl.Member.{Member}
 use Rattle.jp_meaning.specs.declared.unit.TypedMember.{TypedMember}

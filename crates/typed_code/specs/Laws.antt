@@ -1,5 +1,5 @@
 -- The code of a unit without a fault can be written.
-use Rattle.std.specs.Prelude.{◌≡◌, ℕ, ◌≤◌, List, true}
+use Rattle.std.specs.Prelude.{◌≡◌, ◌≤◌, List, true}
 use Rattle.std.specs.List.{list_all}
 use Rattle.jp_pred.specs.declared.hier.Hier.{Hier}
 use Rattle.jp_pred.specs.Names.{In}
