@@ -31,7 +31,7 @@ use Rattle.gen_body.specs.Names.{are_nameable, is_result}
 use Rattle.gen_body.proofs.Signatures.{signatures_read_back}
 use Rattle.gen_body.specs.Codes.{Codes, plain, void, judged, choose_truth, and_test, or_test, choice, is_short, push_int, construction, named, family, virtual_call, called, make_array, Place, LocalAt, FieldAt, StaticAt, ElementAt, Nowhere, Literal, Zero, Nil, Anything, Coded, prefix_codes, infix_codes, compare_both, compare_codes, local_codes, array_codes, local_spot}
 use Rattle.code_fits.specs.Encodable.{is_in_reach, has_few}
-use Rattle.code_fits.specs.Ordinary.{is_ordinary, is_distinct}
+use Rattle.code_fits.specs.Ordinary.{is_ordinary, is_ordinary_family, is_distinct}
 
 pub denied : (b : Bool) → not b ≡ true → b ≡ false
 denied true h = absurd (false≢true h)
@@ -117,22 +117,20 @@ io_class class e = by_object (same class object) where
   by_object true = refl
   by_object false = e
 
-all_false : (io init x y z d o : Bool) → io ≡ false → init ≡ false → ((io && x) || ((io && y) || ((io && z) || (o && (init && d))))) ≡ false
+all_false : (io init x y z d o : Bool) → io ≡ false → (o && init) ≡ false → ((io && x) || ((io && y) || ((io && z) || (o && (init && d))))) ≡ false
 all_false true init x y z d o e f = absurd (false≢true (sym e))
-all_false false true x y z d o e f = absurd (false≢true (sym f))
+all_false false true x y z d true e f = absurd (false≢true (sym f))
 all_false false false x y z d true e f = refl
-all_false false false x y z d false e f = refl
+all_false false init x y z d false e f = refl
 
-pub not_init : (class name : Word) → is_ordinary class name ≡ true → bytes_eq name (codes "<init>") ≡ false
-not_init class name e = denied (same name (codes "<init>")) (both (not (same class (codes "Io"))) (not (same name (codes "<init>"))) e).1
-
-pub unbuilt : (class name : Word) (params : List Ty) (t : Ty) → is_ordinary class name ≡ true → is_built_in (key_of_method (method_of class name params t)) ≡ false
+unbuilt : (class name : Word) (params : List Ty) (t : Ty) → is_ordinary class name ≡ true → is_built_in (key_of_method (method_of class name params t)) ≡ false
 unbuilt class name params t e =
     let d = method_descriptor params t in
-    let h = both (not (same class (codes "Io"))) (not (same name (codes "<init>"))) e in
+    let object_init = same (internal_name class) object_name && same name (codes "<init>") in
+    let h = both (not (same class (codes "Io"))) (not object_init) e in
     all_false (bytes_eq (internal_name class) (codes "Io")) (bytes_eq name (codes "<init>"))
     (bytes_eq name (codes "print") && bytes_eq d (codes "(I)V")) (bytes_eq name (codes "text") && bytes_eq d (codes "(Ljava/lang/String;)V")) (bytes_eq name (codes "read") && bytes_eq d (codes "()I"))
-    (bytes_eq d (codes "()V")) (bytes_eq (internal_name class) object_name) (io_class class (denied (same class (codes "Io")) h.0)) (not_init class name e)
+    (bytes_eq d (codes "()V")) (bytes_eq (internal_name class) object_name) (io_class class (denied (same class (codes "Io")) h.0)) (denied object_init h.1)
 
 none_named : (io o x y z d : Bool) → o ≡ false → ((io && (false && x)) || ((io && (false && y)) || ((io && (false && z)) || (o && d)))) ≡ false
 none_named true true x y z d e = absurd (false≢true (sym e))
@@ -239,9 +237,14 @@ module _ (G F : Type 0) where
   named_fits use_ class name params t h e =
       (λ g. refl, λ f. let i = both (are_nameable params) (is_result t) (h f) in (signatures_read_back params t i.0 i.1, unbuilt class name params t (e f)))
 
-  pub family_fits : (use_ : ConstantUse) (class name : Word) (params : List Ty) (t : Ty) → (F → (are_nameable params && is_result t) ≡ true) → (F → is_ordinary class name ≡ true) → Fit (Uses use_ (family (method_of class name params t) params t))
-  family_fits use_ class name params t h e =
-      (λ g. refl, λ f. let i = both (are_nameable params) (is_result t) (h f) in (signatures_read_back params t i.0 i.1, unbuilt class name params t (e f), not_init class name (e f)))
+  pub family_fits : (use_ : ConstantUse) (class name : Word) (params : List Ty) (t : Ty) → (F → (are_nameable params && is_result t) ≡ true) → (F → is_ordinary_family class name ≡ true) → Fit (Uses use_ (family (method_of class name params t) params t))
+  family_fits use_ class name params t h e = (
+    λ g. refl,
+    λ f.
+        let i = both (are_nameable params) (is_result t) (h f) in
+        let j = both (is_ordinary class name) (not (same name (codes "<init>"))) (e f) in
+        (signatures_read_back params t i.0 i.1, unbuilt class name params t j.0, denied (same name (codes "<init>")) j.1),
+  )
 
   pub virtual_fits : (is_interface : Bool) (class name : Word) (params : List Ty) (t : Ty) → (F → (are_nameable params && is_result t) ≡ true) → (F → is_ordinary class name ≡ true) → (G → has_few is_interface params ≡ true) → Fit (virtual_call is_interface (method_of class name params t) params t)
   virtual_fits true class name params t h e g =

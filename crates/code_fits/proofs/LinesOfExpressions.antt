@@ -21,7 +21,7 @@ use Rattle.gen_body.specs.Names.{are_nameable, is_result}
 use Rattle.gen_body.specs.Codes.{Codes, Row, Coded, plain, called, choice, row_codes, coded_step, coded}
 use Rattle.calls_fit.specs.Fitting.{Checked, all_fit, is_whole_above, check, expr_step as checked_step}
 use Rattle.code_fits.specs.Encodable.{has_few, expr_step, is_encodable}
-use Rattle.code_fits.specs.Ordinary.{is_ordinary, is_distinct, calls_ordinary, expr_step as ordinary_step}
+use Rattle.code_fits.specs.Ordinary.{is_ordinary, is_ordinary_family, is_distinct, calls_ordinary, expr_step as ordinary_step}
 use Rattle.code_fits.proofs.Lines as lines
 use Rattle.code_fits.proofs.Lines.{single_type, both_if}
 
@@ -190,7 +190,7 @@ module _ (G F : Type 0) (p : Program) (head : Iface) (r : Bool) where
       record {
         codes = λ e o g n.
             let h = both_if F (given args && named) (r && above) e in let i = both_if F (given args) named h.0 in
-            let u = both_if F (usual args) (is_ordinary class name) o in
+            let u = both_if F (usual args) (is_ordinary_family class name) o in
             super_fits (kind_of_type t) (row_of args n) _ (row_fits args i.0 u.0 g n) (lines.family_fits G F InvokeSpecial class name params t i.1 u.1);
         spot = λ e o g n. tt;
         place = λ g n. tt;

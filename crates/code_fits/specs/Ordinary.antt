@@ -13,11 +13,16 @@ use Rattle.jp_meaning.specs.declared.stmt.TypedStmtKind.TheOpen as stmt
 use Rattle.jp_meaning.specs.declared.unit.TypedPart.{TypedPart}
 use Rattle.jp_meaning.specs.declared.unit.TypedPart.TheVariants as part
 use Rattle.jp_meaning.specs.declared.unit.TypedMember.{TypedMember}
+use Rattle.jp_meaning.specs.Descriptors.{internal_name}
 use Rattle.code_fits.specs.Encodable.{or_so}
 
--- a method that isn't one of `Io`, and isn't called as constructors are
+-- a method that isn't built into the machine: none of `Io`, and not the constructor of Object
 abbrev pub is_ordinary : Word → Word → Bool
-is_ordinary class name = not (same class (codes "Io")) && not (same name (codes "<init>"))
+is_ordinary class name = not (same class (codes "Io")) && not (same (internal_name class) object_name && same name (codes "<init>"))
+
+-- a family isn't called as constructors are either
+abbrev pub is_ordinary_family : Word → Word → Bool
+is_ordinary_family class name = is_ordinary class name && not (same name (codes "<init>"))
 
 -- a class whose name isn't what Object is called in code
 abbrev pub is_distinct : Word → Bool
@@ -41,7 +46,7 @@ expr_step (form.Length array) = array
 expr_step (form.Index array index) = array && index
 expr_step (form.CallVirtual object class is_interface name params args) = object && (list_all (λ a. a) args && is_ordinary class name)
 expr_step (form.CallStatic class name params args) = list_all (λ a. a) args && is_ordinary class name
-expr_step (form.CallSuper class name params args) = list_all (λ a. a) args && is_ordinary class name
+expr_step (form.CallSuper class name params args) = list_all (λ a. a) args && is_ordinary_family class name
 expr_step (form.New class params args) = list_all (λ a. a) args && is_distinct class
 expr_step (form.NewArray elem size) = size
 expr_step (form.Print value) = value
