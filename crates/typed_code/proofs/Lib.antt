@@ -6,3 +6,7 @@ pub mod FlowTold
 pub mod GuardRoots
 pub mod MemberTold
 pub mod UnitTold
+pub mod OrdinaryForms
+pub mod SeenOrdinary
+pub mod FlowOrdinary
+pub mod UnitOrdinary

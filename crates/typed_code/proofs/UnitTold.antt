@@ -42,14 +42,14 @@ in_more P xs y h k x i = elim (in_append x xs (y ∷ []) i) [
 ]
 
 module _ (P : TypedMember → Type 0) where
-  abbrev Each : List TypedMember → Type 0
+  abbrev pub Each : List TypedMember → Type 0
   Each ts = (t : TypedMember) → In t ts → P t
 
   no_members : (xs : List (Seat × Opened)) → OnMade Each (made_members None xs)
   no_members [] = tt
   no_members (x ∷ xs) = no_members xs
 
-  members_told : (xs : List (Seat × Opened)) (done : List TypedMember) → ((x : Seat × Opened) → In x xs → OnMade P (made_member x.0 x.1)) → Each done → OnMade Each (made_members (Some done) xs)
+  pub members_told : (xs : List (Seat × Opened)) (done : List TypedMember) → ((x : Seat × Opened) → In x xs → OnMade P (made_member x.0 x.1)) → Each done → OnMade Each (made_members (Some done) xs)
   members_told [] done h k = k
   members_told (x ∷ xs) done h k = by_member (made_member x.0 x.1) (h x here) (λ t e. members_told xs (done ++ t ∷ []) (λ y i. h y (there i)) (in_more P done t k e)) where
     by_member : (o : Option TypedMember) → OnMade P o → ((t : TypedMember) → P t → OnMade Each (made_members (Some (done ++ t ∷ [])) xs)) → OnMade Each (made_members (option_map (λ t. done ++ t ∷ []) o) xs)
@@ -57,7 +57,7 @@ module _ (P : TypedMember → Type 0) where
     by_member (Some t) g later = later t g
 
   -- with the constructor that isn't written
-  default_told : (d : Decl) (ms : List TypedMember) → Each ms → P default_constructor → Each (with_default d ms)
+  pub default_told : (d : Decl) (ms : List TypedMember) → Each ms → P default_constructor → Each (with_default d ms)
   default_told d ms h k = by_kind d.is_interface where
     by_written : (b : Bool) → Each (if b then ms ++ default_constructor ∷ [] else ms)
     by_written true = in_more P ms default_constructor h k

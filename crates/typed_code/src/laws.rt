@@ -1,4 +1,4 @@
-ghost use Rattle.typed_code.specs.Laws.{TypedJumpsStandInLoops, TypedIsEncodable, TypedIsWritten};
+ghost use Rattle.typed_code.specs.Laws.{TypedJumpsStandInLoops, TypedIsEncodable, TypedIsWritten, TypedCallsOrdinary, TypedIsMeant};
 
 /// In a unit without a fault each `break` and `continue` stands in a loop.
 pub fn typed_jumps_stand_in_loops()
@@ -13,4 +13,14 @@ pub fn typed_is_encodable()
 /// The lines of such a member's code can be laid out.
 pub fn typed_is_written()
     ensures { TypedIsWritten }
+{}
+
+/// The members of a unit without a fault call nothing that is built into the machine.
+pub fn typed_calls_ordinary()
+    ensures { TypedCallsOrdinary }
+{}
+
+/// The code of these members names each method with the signature of its descriptor.
+pub fn typed_is_meant()
+    ensures { TypedIsMeant }
 {}

@@ -3,4 +3,7 @@
 
 mod laws;
 
-pub use laws::{typed_is_encodable, typed_is_written, typed_jumps_stand_in_loops};
+pub use laws::{
+    typed_calls_ordinary, typed_is_encodable, typed_is_meant, typed_is_written,
+    typed_jumps_stand_in_loops,
+};
