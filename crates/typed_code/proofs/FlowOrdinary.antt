@@ -25,7 +25,7 @@ use Rattle.type_rules.specs.Expressions.{part}
 use Rattle.type_rules.specs.Statements.{Flow, waiting, Step, Block, Empty, Local, If, While, For, Jump, Return, Assign, Bump, Run, step_of, in_loop, count, after_init, operand, seen_option, pushed, made_along, node_in, scope_behind, tree_of, tree_option, made_option, resolved, statement_at, flow_of, flow}
 use Rattle.code_fits.specs.Encodable.{or_so}
 use Rattle.code_fits.specs.Ordinary.{calls_ordinary, stmt_calls_ordinary}
-use Rattle.typed_code.proofs.Making.{OnMade, any_then, so_then, any_map, so_map}
+use Rattle.typed_code.proofs.Making.{OnMade, so_then, so_map}
 use Rattle.typed_code.proofs.OrdinaryForms.{fine_block, fine_empty, fine_local, fine_if, fine_while, fine_for, fine_break, fine_continue, fine_return, fine_assign, fine_bump, fine_run}
 use Rattle.typed_code.proofs.SeenTold.{and_so, of_both}
 use Rattle.typed_code.proofs.SeenOrdinary.{AreOrdinary, Usual, part_usual}

@@ -1,11 +1,10 @@
 -- The members of a unit without a fault call ordinary methods, and so each method is named as it is meant.
 use Rattle.std.proofs.Common.{◌≡◌, ◌⊎◌, ℕ, zero, suc, Bool, true, false, List, [], ◌∷◌, ◌++◌, map, length, Option, Some, None, refl, sym, ap, ◌∙◌, subst, inl, inr}
-use Rattle.std.specs.Prelude.{◌&&◌, not, cond, if◌then◌else◌, is_some, unwrap_or, option_and_then, codes}
+use Rattle.std.specs.Prelude.{◌&&◌, not, cond, if◌then◌else◌, unwrap_or, codes}
 use Rattle.std.specs.List.{find, list_all, filter_map, flat_map}
 use Rattle.std.specs.Option.{option_map, option_map_or, option_or}
 use Rattle.std.proofs.lemmas.Bool.{false≢true}
 use Rattle.jp_pred.specs.Names.{Word, In, here, there, same, object}
-use Rattle.jp_pred.proofs.Ascents.{same_refl}
 use Rattle.jp_pred.proofs.Entries.{in_append, split_in}
 use Rattle.jp_pred.proofs.Cycles.{in_map_back}
 use Rattle.iface_codec.specs.declared.iface.Iface.{Iface}
@@ -14,7 +13,6 @@ use Rattle.jp_ast.specs.declared.expr.Expr.{Expr}
 use Rattle.jp_ast.specs.declared.decl.Decl.{Decl}
 use Rattle.jp_ast.specs.declared.decl.Member.{Member}
 use Rattle.jp_meaning.specs.declared.expr.TypedExpr.{TypedExpr}
-use Rattle.jp_meaning.specs.declared.stmt.TypedStmt.{TypedStmt}
 use Rattle.jp_meaning.specs.declared.unit.TypedPart.{TypedPart}
 use Rattle.jp_meaning.specs.declared.unit.TypedPart.TheVariants as typed
 use Rattle.jp_meaning.specs.declared.unit.TypedMember.{TypedMember}
@@ -26,15 +24,15 @@ use Rattle.type_rules.specs.declared.scope.Scope.{Scope}
 use Rattle.type_rules.specs.declared.seen.Role.TheVariants as role
 use Rattle.type_rules.specs.Types.{io, is_among}
 use Rattle.type_rules.specs.Heads.{object_head, io_head, head, heads_of, head_of, superclass_of}
-use Rattle.type_rules.specs.Lookups.{unless_met, climb, superclasses, interfaces_above, breadth_first, class_names, unmet, supertypes, is_called, method_among, method_of}
-use Rattle.type_rules.specs.RulesOfDeclarations.{is_open, has_no_constructor}
+use Rattle.type_rules.specs.Lookups.{climb, superclasses, interfaces_above, breadth_first, class_names, unmet, supertypes, is_called, method_among, method_of}
+use Rattle.type_rules.specs.RulesOfDeclarations.{is_open}
 use Rattle.type_rules.specs.Expressions.{seen_all, arguments}
 use Rattle.type_rules.specs.Statements.{waiting, operand, flow, made_along}
-use Rattle.type_rules.specs.Units.{Opened, Seat, super_part, block_part, opened, open_decl, body_scope, super_parts, place_in, made_guard, guard_of, member_from, made_member, seats_of, resolved_head, default_constructor, with_default, made_members, made_class, visits_from}
+use Rattle.type_rules.specs.Units.{Opened, Seat, super_part, block_part, opened, open_decl, body_scope, super_parts, place_in, made_guard, guard_of, member_from, made_member, seats_of, resolved_head, made_members, made_class, visits_from}
 use Rattle.calls_fit.specs.Fitting.{member_fits}
 use Rattle.calls_fit.proofs.Named.{some_is, none_is, all_in, get_in}
 use Rattle.typed_fits.proofs.Looking.{find_in, head_in}
-use Rattle.typed_fits.proofs.Rules.{AllKeep, all_keep, Standing, standing}
+use Rattle.typed_fits.proofs.Rules.{all_keep, standing}
 use Rattle.typed_fits.proofs.MemberFits.{seat_is}
 use Rattle.typed_fits.proofs.UnitFits.{Made, none, one, all_made, head_is, is_opened, unit_classes, trees_fit}
 use Rattle.code_fits.specs.Encodable.{or_so}
@@ -45,7 +43,7 @@ use Rattle.typed_code.specs.Limits.{has_ordinary_methods}
 use Rattle.typed_code.specs.Laws.{TypedCallsOrdinary, TypedIsMeant}
 use Rattle.typed_code.proofs.Making.{OnMade, any_then, so_then, so_map}
 use Rattle.typed_code.proofs.SeenTold.{and_so, of_both}
-use Rattle.typed_code.proofs.SeenOrdinary.{AreOrdinary, AllUsual, arguments_usual, part_usual, denied}
+use Rattle.typed_code.proofs.SeenOrdinary.{AreOrdinary, AllUsual, arguments_usual, part_usual}
 use Rattle.typed_code.proofs.FlowOrdinary.{AllOrdinary, block_usual}
 use Rattle.typed_code.proofs.UnitTold.{members_told, default_told}
 
