@@ -1,0 +1,9 @@
+pub mod Marks
+pub mod Labels
+pub mod LabelledExpressions
+pub mod LabelledStatements
+pub mod LabelledMembers
+pub mod Lines
+pub mod LinesOfExpressions
+pub mod LinesOfStatements
+pub mod LinesOfMembers

@@ -1,0 +1,3 @@
+pub mod Encodable
+pub mod Ordinary
+pub mod Laws

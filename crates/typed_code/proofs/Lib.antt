@@ -1,0 +1,12 @@
+pub mod Making
+pub mod JumpsInLoops
+pub mod EncodableForms
+pub mod SeenTold
+pub mod FlowTold
+pub mod GuardRoots
+pub mod MemberTold
+pub mod UnitTold
+pub mod OrdinaryForms
+pub mod SeenOrdinary
+pub mod FlowOrdinary
+pub mod UnitOrdinary
