@@ -1,0 +1,5 @@
+pub mod Again
+pub mod Anys
+pub mod Breaks
+pub mod Inherits
+pub mod Places
