@@ -1,0 +1,4 @@
+mod Growing
+mod Making
+mod Single
+mod Whole

@@ -1,0 +1,14 @@
+use Rattle.std.proofs.Common.{◌≡◌, map, take}
+use Rattle.std.specs.List.{filter_map}
+use Rattle.code_asm.specs.Held.{Extends}
+use Rattle.gen_class.specs.Flags.{flags_of_part}
+use Rattle.gen_class.specs.Made.{InClass, AreMade}
+use Rattle.gen_class.proofs.methods.methods_of.Given as goal
+
+-- the methods so far
+abbrev pub invariant-loop-member : goal.invariant-loop-member
+invariant-loop-member l = record {
+  kept : Extends l.initial.pool l.pool;
+  made : InClass l.class.head l.pool (λ file. AreMade l.hier l.class.head file (take l.member-index l.class.members) l.methods);
+  flagged : map (λ method. method.flags) l.methods ≡ filter_map (λ m. flags_of_part l.class.head m.part) (take l.member-index l.class.members);
+}

@@ -1,0 +1,5 @@
+pub mod Files
+pub mod Flags
+pub mod Heads
+pub mod Made
+pub mod Members
