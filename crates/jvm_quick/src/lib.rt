@@ -9,4 +9,4 @@ mod stretch;
 
 pub use decoded::{Decoded, decode};
 pub use rows::Rows;
-pub use stretch::{Quick, Stretch, run_stretch};
+pub use stretch::{Quick, Stretch, stretch_from};

@@ -1,14 +1,16 @@
-ghost use Rattle.std.specs.Prelude.{◌≡◌};
+ghost use Rattle.std.specs.Prelude.{◌≡◌, ◌≤◌, List};
 ghost use Rattle.class_form.specs.declared.class_file.ClassFile.{ClassFile};
 ghost use Rattle.class_form.specs.declared.member.MemberInfo.{MemberInfo};
 ghost use Rattle.jvm_table.specs.declared.frame.Frame.{Frame as At};
 ghost use Rattle.jvm_table.specs.Act.{acts};
-ghost use Rattle.jvm_quick.specs.Rows.{DoAs};
+ghost use Rattle.jvm_quick.specs.Rows.{DoAs, AreDecoded};
+ghost use Rattle.jvm_quick.specs.Walks.{LeadsTo};
 ghost use Rattle.jvm_quick.specs.Stretches.{went_act, Says, IsStretch, CountsTo};
 
-use crate::Rows;
 use crate::act::{Went, quick};
+use crate::{Decoded, Rows};
 use jp_store::TrapKind;
+use jvm_step::State;
 use jvm_table::Frame;
 
 /// What an instruction comes to: it stays in its frame, it traps, there is no row for it, or it isn't one of those that are
@@ -62,8 +64,8 @@ fn quick_step(rows: &Rows, frame: &mut Frame) -> Quick
     }
 }
 
-/// Runs instructions of a method by its rows while they stay in the frame, as many as `limit` at most.
-pub fn run_stretch(rows: &Rows, limit: u64, frame: &mut Frame) -> Stretch
+// Runs instructions of a method by its rows while they stay in the frame, as many as `limit` at most.
+fn run_stretch(rows: &Rows, limit: u64, frame: &mut Frame) -> Stretch
     ensures count { CountsTo limit result.end result.count }
     ensures stretch { (file : ClassFile) (method : MemberInfo) → DoAs file method rows.now
         → IsStretch file method result.count result.end frame.old frame.new }
@@ -94,5 +96,21 @@ pub fn run_stretch(rows: &Rows, limit: u64, frame: &mut Frame) -> Stretch
     Stretch {
         count: limit,
         end: Quick::Moved,
+    }
+}
+
+/// Runs the instructions of the method that runs while they stay in its frame, as many as `limit` at most.
+pub fn stretch_from(decoded: &Decoded, limit: u64, state: &mut State) -> Stretch
+    requires { 1 ≤ limit }
+    ensures count { CountsTo limit result.end result.count }
+    ensures leads { (files : List ClassFile) → AreDecoded files decoded.now
+        → LeadsTo files result.count result.end state.old state.new }
+{
+    match decoded.rows(state.current.file, state.current.method) {
+        Some(rows) => run_stretch(rows, limit, &mut state.current.frame),
+        None => Stretch {
+            count: 0,
+            end: Quick::Other,
+        },
     }
 }
