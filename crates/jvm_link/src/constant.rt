@@ -49,10 +49,7 @@ fn field_of(
 }
 
 // What the descriptor of a method says.
-fn signature_of(
-    alloc: Global,
-    member: Option<MemberName>,
-) -> Result<Option<Signature>, AllocError>
+fn signature_of(alloc: Global, member: Option<MemberName>) -> Result<Option<Signature>, AllocError>
     ensures { IfOk result (λ signature. signature ≡ option_and_then signed (option_map named member.entry)) }
 {
     match member {
