@@ -12,6 +12,3 @@ mod tokens;
 
 pub use jp_lexical::{LexFault, LexKind};
 pub use tokens::{LexErr, lex};
-
-#[cfg(test)]
-mod tests;

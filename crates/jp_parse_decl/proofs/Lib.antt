@@ -1,6 +1,5 @@
 pub mod BodyFacts
 pub mod ConstructorFacts
-pub mod Endings
 pub mod HeadFacts
 pub mod Links
 pub mod LowerFacts

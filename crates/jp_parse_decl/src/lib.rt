@@ -9,6 +9,3 @@ mod token;
 mod unit;
 
 pub use unit::parse;
-
-#[cfg(test)]
-mod tests;

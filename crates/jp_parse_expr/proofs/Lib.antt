@@ -2,7 +2,6 @@ pub mod Alls
 pub mod Calls
 pub mod Casts
 pub mod Created
-pub mod Endings
 pub mod GuardAtoms
 pub mod GuardDepths
 pub mod GuardEnds

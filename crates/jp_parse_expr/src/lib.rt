@@ -11,6 +11,3 @@ mod token;
 
 pub use expression::{parse_args, parse_expr, parse_postfix};
 pub use guard::parse_guard;
-
-#[cfg(test)]
-mod tests;

@@ -6,6 +6,3 @@ mod reading;
 
 pub use fault::{ReadFault, SyntaxFault, SyntaxKind};
 pub use reading::read;
-
-#[cfg(test)]
-mod tests;
