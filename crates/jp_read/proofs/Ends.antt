@@ -11,7 +11,7 @@ use Rattle.jp_lexical.specs.Places.{behind}
 use Rattle.jp_grammar.specs.declared.kind.Kind.TheVariants as k
 use Rattle.jp_grammar.specs.Kinds.{Tokens, kind_of_lexeme}
 use Rattle.jp_grammar.specs.Reading.{IsText}
-use Rattle.jp_parse_decl.proofs.Endings.{Endless, endless_text, word_no_end}
+use Rattle.jp_read.proofs.Endings.{Endless, endless_text, word_no_end}
 
 -- what is of the end's kind is the end
 end_is : (l : Lexeme) → kind_of_lexeme l ≡ k.End → l ≡ End
