@@ -1,0 +1,8 @@
+pub mod AtOnce
+pub mod GuardAliases
+pub mod Counts
+pub mod Fits
+pub mod Params
+pub mod Slots
+pub mod Units
+pub mod Within
