@@ -68,7 +68,7 @@ signature_is : (x y : Signature) → Some x ≡ Some y → x ≡ y
 signature_is x y e = ap (λ (o : Option Signature). unwrap_or o x) e
 
 -- methods with one descriptor have as many parameters
-same_count : (a b : IfaceMethod) → method_fits a ≡ true → method_fits b ≡ true → method_descriptor a.params a.result ≡ method_descriptor b.params b.result → length a.params ≡ length b.params
+pub same_count : (a b : IfaceMethod) → method_fits a ≡ true → method_fits b ≡ true → method_descriptor a.params a.result ≡ method_descriptor b.params b.result → length a.params ≡ length b.params
 same_count a b f g e =
     let pa : are_nameable a.params ≡ true = first_true (are_nameable a.params) (is_result a.result) f in
     let pb : are_nameable b.params ≡ true = first_true (are_nameable b.params) (is_result b.result) g in

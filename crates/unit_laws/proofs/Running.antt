@@ -67,7 +67,7 @@ unguarded aliases m k e = by_part m.part e where
   by_part (part.Body result when block) e = ap (λ (x : IfaceMethod). x.guard) (sym (some_is _ k e))
   by_part (part.Constructor args block) e = none_is k e
 
-no_guards : (unit : SourceUnit) (tree : TypedUnit) (p : Program) → IsProgramOf unit tree p → HasNoGuards p
+pub no_guards : (unit : SourceUnit) (tree : TypedUnit) (p : Program) → IsProgramOf unit tree p → HasNoGuards p
 no_guards unit tree p of i j c m e f =
     let heads = heads_of unit.decls [] in
     let all = all_made heads unit.decls [] tree.classes (unit_classes heads (map open_decl unit.decls) tree of.typed.resolved) in

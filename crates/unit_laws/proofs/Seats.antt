@@ -166,7 +166,7 @@ module _ (heads : List Iface) (ds : List Decl) (sound : AreSound (visits_from he
       (must_collide a.seen b (a.name ∙ n) (ap length a.params ∙ c) (ap (λ (q : MethodKind). is_static q || is_static b.kind) a.kind ∙ s))
 
   -- or is written before a member of the class
-  earlier_one : (k b : IfaceMethod) (sk : Stands heads d k) (sb : Stands heads d b) → In sb.member sk.seat.earlier → k.name ≡ b.name → length k.params ≡ length b.params → (is_static k.kind || is_static b.kind) ≡ true → ⊥
+  pub earlier_one : (k b : IfaceMethod) (sk : Stands heads d k) (sb : Stands heads d b) → In sb.member sk.seat.earlier → k.name ≡ b.name → length k.params ≡ length b.params → (is_static k.kind || is_static b.kind) ≡ true → ⊥
   earlier_one k b sk sb i n c s =
       let a = seen_as (entry_of sk.seat (opened sk.member)) sk.member k sk.own in
       let e = seen_as (entry_of sb.seat (opened sb.member)) sb.member b sb.own in
