@@ -1,0 +1,3 @@
+pub mod WithinLimits
+pub mod NoAliases
+pub mod Plain
