@@ -1,5 +1,5 @@
 -- Arguments that are taken from the last one on, and put into local variables from the first one on.
-use Rattle.std.proofs.Common.{◌≡◌, ℕ, zero, suc, ◌+◌, ◌-◌, ◌<◌, ◌≤◌, Bool, true, false, List, [], ◌∷◌, ◌++◌, length, drop, replicate, Option, Some, None, refl, sym, ap, ◌∙◌, subst, append_assoc, append-nil, length-append, drop-cons, get_or, arith}
+use Rattle.std.proofs.Common.{◌≡◌, ℕ, zero, suc, ◌+◌, ◌-◌, ◌<◌, ◌≤◌, Bool, true, false, List, [], ◌∷◌, ◌++◌, length, drop, replicate, Option, Some, None, refl, sym, ap, ◌∙◌, append_assoc, append-nil, length-append, drop-cons, get_or, arith}
 use Rattle.std.specs.Prelude.{option_and_then, nat_le, nat_lt, slice_set, if◌then◌else◌}
 use Rattle.std.proofs.Math.Seq.{set-append_seam}
 use Rattle.std.proofs.lemmas.List.{length-replicate}
@@ -8,7 +8,7 @@ use Rattle.std.specs.Bool.{OnTrue}
 use Rattle.jp_store.specs.declared.value.Value.{Value}
 use Rattle.jp_store.specs.declared.value.Value.TheVariants.{Int, Long, Null, Ref, Text}
 use Rattle.jp_store.specs.declared.value.Kind.{Kind}
-use Rattle.jp_store.specs.declared.value.Kind.TheVariants.{Number, LongNumber, Reference}
+use Rattle.jp_store.specs.declared.value.Kind.TheVariants.{Number}
 use Rattle.jp_store.specs.Arith.{is_kind, width_of}
 use Rattle.jvm_table.specs.declared.frame.Frame.{Frame}
 use Rattle.jvm_table.specs.Act.{popped, args_taken}

@@ -1,24 +1,23 @@
 -- The turns of calls, by what is found on the way.
 use Rattle.std.proofs.Common.{◌≡◌, ℕ, Bool, true, false, List, [], ◌∷◌, Option, Some, None, refl, sym, ap, ◌∙◌}
-use Rattle.std.specs.Prelude.{option_and_then, is_some, codes, if◌then◌else◌}
+use Rattle.std.specs.Prelude.{option_and_then, codes, if◌then◌else◌}
 use Rattle.std.specs.Option.{option_map}
 use Rattle.std.specs.Str.{bytes_eq}
+use Rattle.std.proofs.lemmas.Option.{none-some}
 use Rattle.class_form.specs.declared.class_file.ClassFile.{ClassFile}
-use Rattle.class_form.specs.declared.constant.Const.{Const}
 use Rattle.class_form.specs.Constants.{class_name_at}
 use Rattle.jp_store.specs.declared.value.Value.{Value}
 use Rattle.jp_store.specs.declared.value.Value.TheVariants.{Int, Long, Null, Ref, Text}
 use Rattle.jp_store.specs.declared.value.Kind.TheVariants.{Reference}
 use Rattle.jp_store.specs.Arith.{is_kind}
 use Rattle.jp_store.specs.Classes.{Key}
-use Rattle.jp_store.specs.declared.heap.Thing.{Thing}
 use Rattle.jvm_table.specs.declared.frame.Frame.{Frame}
-use Rattle.jvm_table.specs.Constants.{member_named}
 use Rattle.jvm_table.specs.Descriptors.{Signature, signature_of}
 use Rattle.jvm_table.specs.Act.{Act, Moves, Target, StaticMethod, VirtualMethod, Constructor, MethodAbove, on_found, on_pop, on_receiver, popped, invoked, args_taken, calls, calls_virtual, special_target, where_so, calls_special, is_object_init}
 use Rattle.jvm_step.specs.declared.state.State.{State}
+use Rattle.jvm_link.specs.Links.{signed, static_of}
 use Rattle.jvm_calls.specs.Passing.{is_null}
-use Rattle.jvm_step.specs.Turn.{turn, no_row, called, entry, found_by, is_on_null, wants_static}
+use Rattle.jvm_step.specs.Turn.{turn, no_row, called, entry, found_by, is_on_null}
 
 -- what isn't found has no row
 pub none_found : {A : Type 0} (files : List ClassFile) (st : State) (o : Option A) (go : A → Act) → o ≡ None → turn files st (on_found o go) ≡ no_row st
@@ -154,11 +153,28 @@ special_call files st file named key f g h s args all r null found n i e a p k w
     ∙ ap (λ b. called st b h (option_and_then (entry files false (r ∷ args)) found)) (sym u)
     ∙ ap (λ l. called st null h (option_and_then (entry files false l) found)) (sym w)
 
-pub by_constructor : (files : List ClassFile) (heap : List Thing) (args : List Value) (file : ClassFile) (key : Key) (found : Option (ℕ × ℕ)) → bytes_eq key.name (codes "<init>") ≡ true → found ≡ found_by files heap (Constructor key) args → found ≡ option_and_then (λ target. found_by files heap target args) (special_target file key)
-by_constructor files heap args file key found e m =
-    m ∙ sym (ap (λ b. option_and_then (λ target. found_by files heap target args) (if b then Some (Constructor key) else option_map (λ current. MethodAbove current key.name key.descriptor) (class_name_at file file.this_class))) e)
+-- a static call by what its constant names
+pub static_unsigned : (files : List ClassFile) (st : State) (named : Option Key) (f : Frame) → option_and_then signed named ≡ None → turn files st (on_found named (λ key. invoked key.descriptor f (calls (StaticMethod key)))) ≡ no_row st
+static_unsigned files st None f e = refl
+static_unsigned files st (Some key) f e = no_signature files st key.descriptor f (calls (StaticMethod key)) e
 
-pub by_above : (files : List ClassFile) (heap : List Thing) (args : List Value) (file : ClassFile) (key : Key) (class : List ℕ) (found : Option (ℕ × ℕ)) → bytes_eq key.name (codes "<init>") ≡ false → class_name_at file file.this_class ≡ Some class → found ≡ found_by files heap (MethodAbove class key.name key.descriptor) args → found ≡ option_and_then (λ target. found_by files heap target args) (special_target file key)
-by_above files heap args file key class found e n m =
-    m ∙ sym (ap (λ b. option_and_then (λ target. found_by files heap target args) (if b then Some (Constructor key) else option_map (λ current. MethodAbove current key.name key.descriptor) (class_name_at file file.this_class))) e
-    ∙ ap (λ o. option_and_then (λ target. found_by files heap target args) (option_map (λ current. MethodAbove current key.name key.descriptor) o)) n)
+pub static_untaken : (files : List ClassFile) (st : State) (named : Option Key) (f : Frame) (s : Signature) → option_and_then signed named ≡ Some s → args_taken s.parameters f ≡ None → turn files st (on_found named (λ key. invoked key.descriptor f (calls (StaticMethod key)))) ≡ no_row st
+static_untaken files st None f s e a = refl
+static_untaken files st (Some key) f s e a = no_arguments files st key.descriptor f (calls (StaticMethod key)) s e a
+
+pub static_linked : (files : List ClassFile) (st : State) (named : Option Key) (f g : Frame) (s : Signature) (args : List Value) (found : Option (ℕ × ℕ)) → option_and_then signed named ≡ Some s → args_taken s.parameters f ≡ Some (args, g) → found ≡ option_and_then (static_of files st.heap args) named → turn files st (on_found named (λ key. invoked key.descriptor f (calls (StaticMethod key)))) ≡ called st false g (option_and_then (entry files true args) found)
+static_linked files st None f g s args found e a m = absurd (none-some s e)
+static_linked files st (Some key) f g s args found e a m = static_call files st (Some key) key f g s args found refl e a m
+
+-- a special call with no receiver, or with one that is no reference
+pub special_call_alone : (files : List ClassFile) (st : State) (file : ClassFile) (named : Option Key) (key : Key) (f g : Frame) (s : Signature) (args : List Value) → named ≡ Some key → is_object_init key ≡ false → signature_of key.descriptor ≡ Some s → args_taken s.parameters f ≡ Some (args, g) → popped g.stack.values g ≡ None → turn files st (on_found named (λ key. calls_special file key f)) ≡ no_row st
+special_call_alone files st file named key f g s args n i e a p =
+    some_found files st named key (λ key. calls_special file key f) n
+    ∙ calls_other files st file key f i
+    ∙ special_alone files st (special_target file key) key f g s args e a p
+
+pub special_call_other : (files : List ClassFile) (st : State) (file : ClassFile) (named : Option Key) (key : Key) (f g h : Frame) (s : Signature) (args : List Value) (r : Value) → named ≡ Some key → is_object_init key ≡ false → signature_of key.descriptor ≡ Some s → args_taken s.parameters f ≡ Some (args, g) → popped g.stack.values g ≡ Some (r, h) → is_kind Reference r ≡ false → turn files st (on_found named (λ key. calls_special file key f)) ≡ no_row st
+special_call_other files st file named key f g h s args r n i e a p k =
+    some_found files st named key (λ key. calls_special file key f) n
+    ∙ calls_other files st file key f i
+    ∙ special_other files st (special_target file key) key f g h s args r e a p k

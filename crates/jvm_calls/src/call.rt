@@ -1,4 +1,4 @@
-ghost use Rattle.std.specs.Prelude.{◌≡◌, ℕ, List, Some, IfOk, option_and_then};
+ghost use Rattle.std.specs.Prelude.{◌≡◌, ℕ, List, Some, IfOk, option_and_then, slice_get};
 ghost use Rattle.jvm_table.specs.Descriptors.{signature_of};
 ghost use Rattle.jvm_table.specs.Act as table;
 ghost use Rattle.jvm_step.specs.Act.{left_to_do};
@@ -8,15 +8,13 @@ ghost use Rattle.jvm_step.specs.declared.act.Left.TheVariants.{CallVirtual, Call
 ghost use Rattle.jvm_calls.specs.Passing.{as_turn, at_place};
 ghost use Rattle.jvm_calls.specs.Passing as passing;
 ghost use Rattle.class_form.specs.declared.class_file.ClassFile.{ClassFile as Files};
-ghost use Rattle.jp_store.specs.declared.heap.Thing.{Thing as Made};
-ghost use Rattle.jp_store.specs.declared.value.Value.{Value as Cell};
 
 use crate::args::{Args, take_args, take_places};
 use crate::enter::enter;
-use crate::find::{find_above, find_constructor, find_static, find_virtual};
-use class_form::{ClassFile, class_name};
+use crate::find::find_virtual;
 use jp_store::{Kind, TrapKind, Value};
-use jvm_load::{Program, Signature, read_signature};
+use jvm_link::Linked;
+use jvm_load::Signature;
 use jvm_step::{
     MemberName, State, has_kind, interface_method_name, method_name, names_object_init, pop,
 };
@@ -36,7 +34,7 @@ pub enum Passed {
 // Calls the method at these positions; the one that runs waits. At a null receiver it traps, if there is a method.
 fn pass(
     alloc: Global,
-    program: &Program,
+    linked: &Linked,
     is_static: bool,
     on_null: bool,
     args: Args,
@@ -44,12 +42,12 @@ fn pass(
     state: &mut State,
 ) -> Result<Option<Passed>, AllocError>
     ensures { IfOk result (λ passed. (place : ℕ) → as_turn (at_place place state.old) passed state.new
-        ≡ turn.called (at_place place state.old) on_null state.old.current.frame (option_and_then (turn.entry program.now is_static args) found)) }
+        ≡ turn.called (at_place place state.old) on_null state.old.current.frame (option_and_then (turn.entry linked.now is_static args) found)) }
 {
     let Some(at) = found else {
         return Ok(None);
     };
-    let Some(running) = enter(alloc, program, is_static, args, at)? else {
+    let Some(running) = enter(alloc, linked.program(), is_static, args, at)? else {
         return Ok(None);
     };
     if on_null {
@@ -60,41 +58,40 @@ fn pass(
     Ok(Some(Passed::On))
 }
 
-/// Calls the static method that a constant names. `None` where the table has no row for it; the error is want of memory.
+/// Calls the static method that a constant of the running method's file names. `None` where the table has no row for it;
+/// the error is want of memory.
 pub fn call_static(
     alloc: Global,
-    program: &Program,
-    file: &ClassFile,
+    linked: &Linked,
     index: u16,
     state: &mut State,
 ) -> Result<Option<Passed>, AllocError>
-    ensures { IfOk result (λ passed. (place : ℕ) → as_turn (at_place place state.old) passed state.new
-        ≡ turn.turn program.now (at_place place state.old) (left_to_do file.now (CallStatic index) state.old.current.frame)) }
+    ensures { (file : Files) → slice_get linked.now state.old.current.file ≡ Some file
+        → IfOk result (λ passed. (place : ℕ) → as_turn (at_place place state.old) passed state.new
+        ≡ turn.turn linked.now (at_place place state.old) (left_to_do file (CallStatic index) state.old.current.frame)) }
 {
-    let Some(member) = method_name(file, index) else {
-        return Ok(None);
-    };
-    let Some(signature) = read_signature(alloc, member.descriptor)? else {
+    let at = state.current.file;
+    let Some(signature) = linked.signature(at, index) else {
         return Ok(None);
     };
     let Some(args) = take_args(alloc, signature.parameters(), &mut state.current.frame)? else {
         return Ok(None);
     };
-    let found = find_static(program, &member);
-    pass(alloc, program, true, false, args, found, state)
+    let found = linked.static_method(at, index);
+    pass(alloc, linked, true, false, args, found, state)
 }
 
 // Calls the method that is found upwards from the receiver's class.
 fn call_by_receiver(
     alloc: Global,
-    program: &Program,
+    linked: &Linked,
     member: &MemberName,
     signature: &Signature,
     state: &mut State,
 ) -> Result<Option<Passed>, AllocError>
     requires { Some signature.now ≡ signature_of member.now.descriptor.now }
     ensures { IfOk result (λ passed. (place : ℕ) → as_turn (at_place place state.old) passed state.new
-        ≡ turn.turn program.now (at_place place state.old) (table.calls_virtual (named member.now) state.old.current.frame)) }
+        ≡ turn.turn linked.now (at_place place state.old) (table.calls_virtual (named member.now) state.old.current.frame)) }
 {
     let Some(mut args) = take_args(alloc, signature.parameters(), &mut state.current.frame)? else {
         return Ok(None);
@@ -104,59 +101,68 @@ fn call_by_receiver(
     };
     match receiver {
         Value::Ref(number) => {
-            let found = find_virtual(program, &state.heap, number, member);
+            let found = find_virtual(linked.program(), &state.heap, number, member);
             args.push_front(receiver)?;
-            pass(alloc, program, false, false, args, found, state)
+            pass(alloc, linked, false, false, args, found, state)
         }
         Value::Null => Ok(Some(Passed::Trap(TrapKind::NullReference))),
         _ => Ok(None),
     }
 }
 
-/// Calls the method of a class that a constant names, as it is found from the receiver's class. `None` where the table
-/// has no row for it; the error is want of memory.
+/// Calls the method of a class that a constant of the running method's file names, as it is found from the receiver's
+/// class. `None` where the table has no row for it; the error is want of memory.
 pub fn call_virtual(
     alloc: Global,
-    program: &Program,
-    file: &ClassFile,
+    linked: &Linked,
     index: u16,
     state: &mut State,
 ) -> Result<Option<Passed>, AllocError>
-    ensures { IfOk result (λ passed. (place : ℕ) → as_turn (at_place place state.old) passed state.new
-        ≡ turn.turn program.now (at_place place state.old) (left_to_do file.now (CallVirtual index) state.old.current.frame)) }
+    ensures { (file : Files) → slice_get linked.now state.old.current.file ≡ Some file
+        → IfOk result (λ passed. (place : ℕ) → as_turn (at_place place state.old) passed state.new
+        ≡ turn.turn linked.now (at_place place state.old) (left_to_do file (CallVirtual index) state.old.current.frame)) }
 {
+    let at = state.current.file;
+    let Some(file) = linked.program().file(at) else {
+        return Ok(None);
+    };
     let Some(member) = method_name(file, index) else {
         return Ok(None);
     };
-    let Some(signature) = read_signature(alloc, member.descriptor)? else {
+    let Some(signature) = linked.signature(at, index) else {
         return Ok(None);
     };
-    call_by_receiver(alloc, program, &member, &signature, state)
+    call_by_receiver(alloc, linked, &member, signature, state)
 }
 
-/// Calls the method of an interface that a constant names, whose receiver and arguments take `count` places, as it is
-/// found from the receiver's class. `None` where the table has no row for it; the error is want of memory.
+/// Calls the method of an interface that a constant of the running method's file names, whose receiver and arguments take
+/// `count` places, as it is found from the receiver's class. `None` where the table has no row for it; the error is want
+/// of memory.
 pub fn call_interface(
     alloc: Global,
-    program: &Program,
-    file: &ClassFile,
+    linked: &Linked,
     index: u16,
     count: u8,
     state: &mut State,
 ) -> Result<Option<Passed>, AllocError>
-    ensures { IfOk result (λ passed. (place : ℕ) → as_turn (at_place place state.old) passed state.new
-        ≡ turn.turn program.now (at_place place state.old) (left_to_do file.now (CallInterface index count) state.old.current.frame)) }
+    ensures { (file : Files) → slice_get linked.now state.old.current.file ≡ Some file
+        → IfOk result (λ passed. (place : ℕ) → as_turn (at_place place state.old) passed state.new
+        ≡ turn.turn linked.now (at_place place state.old) (left_to_do file (CallInterface index count) state.old.current.frame)) }
 {
+    let at = state.current.file;
+    let Some(file) = linked.program().file(at) else {
+        return Ok(None);
+    };
     let Some(member) = interface_method_name(file, index) else {
         return Ok(None);
     };
-    let Some(signature) = read_signature(alloc, member.descriptor)? else {
+    let Some(signature) = linked.interface_signature(at, index) else {
         return Ok(None);
     };
     if !take_places(signature.parameters(), count) {
         return Ok(None);
     }
-    call_by_receiver(alloc, program, &member, &signature, state)
+    call_by_receiver(alloc, linked, &member, signature, state)
 }
 
 // The built-in constructor of Object: its receiver is taken.
@@ -180,37 +186,29 @@ fn is_null(value: Value) -> bool
     }
 }
 
-// The constructor of the named class, or the method above the class whose code this is.
-fn find_special(program: &Program, file: &ClassFile, member: &MemberName) -> Option<(u32, u32)>
-    ensures { (heap : List Made) (args : List Cell) → result
-        ≡ option_and_then (λ target. turn.found_by program.now heap target args) (table.special_target file.now (named member.now)) }
-{
-    if member.name == b"<init>".as_slice() {
-        find_constructor(program, member)
-    } else {
-        find_above(program, class_name(file, file.this_class)?, member)
-    }
-}
-
-/// Calls the constructor that a constant names, or the method of this name above the class whose code this is. `None`
-/// where the table has no row for it; the error is want of memory.
+/// Calls the constructor that a constant of the running method's file names, or the method of this name above the class
+/// whose code this is. `None` where the table has no row for it; the error is want of memory.
 pub fn call_special(
     alloc: Global,
-    program: &Program,
-    file: &ClassFile,
+    linked: &Linked,
     index: u16,
     state: &mut State,
 ) -> Result<Option<Passed>, AllocError>
-    ensures { IfOk result (λ passed. (place : ℕ) → as_turn (at_place place state.old) passed state.new
-        ≡ turn.turn program.now (at_place place state.old) (left_to_do file.now (CallSpecial index) state.old.current.frame)) }
+    ensures { (file : Files) → slice_get linked.now state.old.current.file ≡ Some file
+        → IfOk result (λ passed. (place : ℕ) → as_turn (at_place place state.old) passed state.new
+        ≡ turn.turn linked.now (at_place place state.old) (left_to_do file (CallSpecial index) state.old.current.frame)) }
 {
+    let at = state.current.file;
+    let Some(file) = linked.program().file(at) else {
+        return Ok(None);
+    };
     let Some(member) = method_name(file, index) else {
         return Ok(None);
     };
     if names_object_init(&member) {
         return Ok(init_object(state));
     }
-    let Some(signature) = read_signature(alloc, member.descriptor)? else {
+    let Some(signature) = linked.signature(at, index) else {
         return Ok(None);
     };
     let Some(mut args) = take_args(alloc, signature.parameters(), &mut state.current.frame)? else {
@@ -222,7 +220,7 @@ pub fn call_special(
     if !has_kind(Kind::Reference, receiver) {
         return Ok(None);
     }
-    let found = find_special(program, file, &member);
+    let found = linked.special_method(at, index);
     args.push_front(receiver)?;
-    pass(alloc, program, false, is_null(receiver), args, found, state)
+    pass(alloc, linked, false, is_null(receiver), args, found, state)
 }

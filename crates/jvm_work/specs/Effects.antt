@@ -4,15 +4,19 @@ use Rattle.std.specs.Option.{option_map}
 use Rattle.class_form.specs.declared.class_file.ClassFile.{ClassFile}
 use Rattle.class_form.specs.Constants.{class_name_at}
 use Rattle.jp_store.specs.declared.value.Value.{Value}
+use Rattle.jp_store.specs.declared.value.Value.TheVariants.{Null}
+use Rattle.jp_store.specs.declared.value.ClassAt.{ClassAt}
+use Rattle.jp_store.specs.declared.value.Element.TheVariants.{References}
 use Rattle.jp_store.specs.declared.value.ElementKind.{ElementKind}
 use Rattle.jp_store.specs.declared.heap.Thing.{Thing}
-use Rattle.jp_store.specs.declared.heap.Thing.TheVariants.{Array}
+use Rattle.jp_store.specs.declared.heap.Thing.TheVariants.{Object, Array}
 use Rattle.jp_store.specs.declared.outcome.Outcome.{Outcome}
 use Rattle.jp_store.specs.declared.outcome.Outcome.TheVariants.{Fine, Trap, Wrong}
 use Rattle.jp_store.specs.Outcome.{then_with, on_some}
-use Rattle.jp_store.specs.Classes.{Class}
+use Rattle.jp_store.specs.Arith.{is_kind, on_int}
+use Rattle.jp_store.specs.Classes.{Class, Found, first_values}
 use Rattle.jp_store.specs.Store.{Store}
-use Rattle.jp_store.specs.Work.{Op, Worked, GetField as FieldRead, PutField as FieldWrite, GetStatic as StaticRead, PutStatic as StaticWrite, MakeObject as ObjectMade, MakeArray, GetElem, PutElem, Length, InstanceOf as InstanceTest, Cast, IntElements, BooleanElements, ClassElements, work, answers, on_array, at_index, fits_element, where_true, changed}
+use Rattle.jp_store.specs.Work.{Op, Worked, GetField as FieldRead, PutField as FieldWrite, GetStatic as StaticRead, PutStatic as StaticWrite, MakeObject as ObjectMade, MakeArray, GetElem, PutElem, Length, InstanceOf as InstanceTest, Cast, IntElements, BooleanElements, ClassElements, work, answers, on_array, at_index, fits_element, where_true, changed, made, on_thing, field_in as value_of_field, with_field, static_in, with_static, is_concrete, array_made, instance_truth, is_null_or, is_instance, cast_by}
 use Rattle.jvm_table.specs.Constants.{field_in, member_named}
 use Rattle.jvm_step.specs.declared.act.Effect.{Effect}
 use Rattle.jvm_step.specs.declared.act.Effect.TheVariants.{GetField, PutField, GetStatic, PutStatic, MakeObject, MakeNumbers, MakeTruths, MakeReferences, GetElement, PutElement, ArrayLength, CheckCast, InstanceOf}
@@ -36,6 +40,33 @@ op_of file (InstanceOf index r) = option_map (InstanceTest r) (class_name_at fil
 -- what an effect comes to; where a constant doesn't name what it should, there is no row
 abbrev pub effected : ClassFile → Effect → Store → Worked
 effected file effect s = on_some (op_of file effect) (λ op. work op s)
+
+-- what an effect comes to, by the field or class that its constant names, if there is one
+abbrev pub field_read : Option Found → Value → Store → Worked
+field_read found r s = on_some found (λ found. on_thing s.heap r (λ o thing. on_some (value_of_field s.classes found thing) (answers s)))
+
+abbrev pub field_written : Option Found → Value → Value → Store → Worked
+field_written found r v s =
+    on_some found (λ found. where_true (is_kind found.kind v) (on_thing s.heap r (λ o thing. on_some (with_field s.classes found v thing) (changed s o))))
+
+abbrev pub static_read : Option Found → Store → Worked
+static_read found s = on_some found (λ found. on_some (static_in s.statics found) (answers s))
+
+abbrev pub static_written : Option Found → Value → Store → Worked
+static_written found v s =
+    on_some found (λ found. where_true (is_kind found.kind v) (on_some (with_static s.statics found v) (λ statics. Fine (Null, record s { statics = statics }))))
+
+abbrev pub object_made : Option ClassAt → Store → Worked
+object_made class s = on_some class (λ class. where_true (is_concrete s.classes class) (made s (Object class (first_values s.classes class))))
+
+abbrev pub references_made : Option ClassAt → Value → Store → Worked
+references_made class size s = on_some (option_map References class) (λ element. on_int (array_made s element) size)
+
+abbrev pub instance_tested : Option ClassAt → Value → Store → Worked
+instance_tested class r s = on_some class (λ up. then_with (instance_truth s up r) (answers s))
+
+abbrev pub casted : Option ClassAt → Value → Store → Worked
+casted class r s = on_some class (λ up. then_with (is_null_or (is_instance s.classes up) s.heap r) (cast_by s r))
 
 -- a store of these parts
 abbrev pub store : List Class → List Thing → List (List Value) → Store

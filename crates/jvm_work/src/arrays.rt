@@ -1,4 +1,4 @@
-ghost use Rattle.std.specs.Prelude.{◌≡◌, ◌<◌, ◌^◌, ℕ, List, length, replicate, slice_get, IfOk, OnErr, IfSome};
+ghost use Rattle.std.specs.Prelude.{◌≡◌, ◌<◌, ◌^◌, ℕ, List, length, replicate, Some, slice_get, IfOk, OnErr, IfSome};
 ghost use Rattle.class_form.specs.declared.class_file.ClassFile.{ClassFile as File};
 ghost use Rattle.jp_store.specs.declared.value.Value.{Value as Cell};
 ghost use Rattle.jp_store.specs.declared.value.ElementKind.TheVariants.{TruthElement};
@@ -10,14 +10,14 @@ ghost use Rattle.jp_store.specs.Store.{Store};
 ghost use Rattle.jp_store.specs.Work as work;
 ghost use Rattle.jp_store.specs.Work.{answers, array_made, at_index, changed, on_array};
 ghost use Rattle.jvm_load.specs.FileClasses.{classes_of};
-ghost use Rattle.jvm_step.specs.declared.act.Effect.TheVariants.{MakeNumbers, MakeTruths, MakeReferences, GetElement, PutElement, ArrayLength};
+ghost use Rattle.jvm_link.specs.Links.{class_named};
+ghost use Rattle.jvm_step.specs.declared.act.Effect.TheVariants.{MakeNumbers, MakeTruths, GetElement, PutElement, ArrayLength};
 ghost use Rattle.jvm_work.specs.Effects as spec;
-ghost use Rattle.jvm_work.specs.Effects.{effected, store, stored_in, left_with, KeptUnlessFine};
+ghost use Rattle.jvm_work.specs.Effects.{effected, references_made, store, stored_in, left_with, KeptUnlessFine};
 
 use crate::objects::{is_null_or_instance, make_thing};
-use class_form::{ClassFile, class_name};
 use jp_store::{Element, ElementKind, Elements, Heap, Kind, Outcome, Thing, TrapKind, Value};
-use jvm_load::Program;
+use jvm_link::Linked;
 use jvm_step::has_kind;
 use std::alloc::{AllocError, Global};
 
@@ -115,22 +115,19 @@ pub(crate) fn make_truths(
 // `anewarray`. The error is want of memory.
 pub(crate) fn make_references(
     alloc: Global,
-    program: &Program,
-    file: &ClassFile,
+    linked: &Linked,
+    at: u32,
     index: u16,
     size: Value,
     heap: &mut Heap,
 ) -> Result<Outcome<Value>, AllocError>
-    ensures worked { (statics : List (List Cell)) → IfOk result (λ outcome.
-        left_with outcome (store (classes_of program.now) heap.new statics)
-        ≡ effected file.now (MakeReferences index size) (store (classes_of program.now) heap.old statics)) }
+    ensures worked { (file : File) (statics : List (List Cell)) → slice_get linked.now at ≡ Some file → IfOk result (λ outcome.
+        left_with outcome (store (classes_of linked.now) heap.new statics)
+        ≡ references_made (class_named linked.now file index) size (store (classes_of linked.now) heap.old statics)) }
     ensures kept { IfOk result (λ outcome. KeptUnlessFine outcome heap.old heap.new) }
     ensures no_memory { OnErr result (heap.new ≡ heap.old) }
 {
-    let Some(name) = class_name(file, index) else {
-        return Ok(Outcome::Wrong);
-    };
-    let Some(class) = program.class_at(name) else {
+    let Some(class) = linked.class(at, index) else {
         return Ok(Outcome::Wrong);
     };
     new_array(alloc, Element::References(class), size, heap)
@@ -227,19 +224,19 @@ pub(crate) fn get_element(
 }
 
 // Whether a reference that is stored fits an array's elements.
-fn fits_element(program: &Program, heap: &Heap, element: Element, value: Value) -> Outcome<bool>
-    ensures { (statics : List (List Cell)) → result ≡ work.fits_element (store (classes_of program.now) heap.now statics) element value }
+fn fits_element(linked: &Linked, heap: &Heap, element: Element, value: Value) -> Outcome<bool>
+    ensures { (statics : List (List Cell)) → result ≡ work.fits_element (store (classes_of linked.now) heap.now statics) element value }
 {
     match element {
         Element::Numbers => Outcome::Fine(true),
         Element::Truths => Outcome::Fine(true),
-        Element::References(class) => is_null_or_instance(program, class, heap, value),
+        Element::References(class) => is_null_or_instance(linked.program(), class, heap, value),
     }
 }
 
 // Where a value is stored in an array.
 fn cell_in(
-    program: &Program,
+    linked: &Linked,
     heap: &Heap,
     kind: ElementKind,
     thing: &Thing,
@@ -247,8 +244,8 @@ fn cell_in(
     value: Value,
 ) -> Outcome<usize>
     ensures { (statics : List (List Cell)) (o : ℕ) →
-        then_with result (λ n. changed (store (classes_of program.now) heap.now statics) o (with_value thing.now n value))
-        ≡ stored_in (store (classes_of program.now) heap.now statics) kind index value o thing.now }
+        then_with result (λ n. changed (store (classes_of linked.now) heap.now statics) o (with_value thing.now n value))
+        ≡ stored_in (store (classes_of linked.now) heap.now statics) kind index value o thing.now }
 {
     match thing {
         Thing::Object(_, _) => Outcome::Wrong,
@@ -259,7 +256,7 @@ fn cell_in(
             let Some((at, _)) = element_at(elements, index) else {
                 return Outcome::Trap(TrapKind::OutOfBounds);
             };
-            match fits_element(program, heap, *element, value) {
+            match fits_element(linked, heap, *element, value) {
                 Outcome::Fine(fits) => {
                     if fits {
                         Outcome::Fine(at)
@@ -275,21 +272,21 @@ fn cell_in(
 }
 
 fn write_element(
-    program: &Program,
+    linked: &Linked,
     kind: ElementKind,
     number: usize,
     index: i32,
     value: Value,
     heap: &mut Heap,
 ) -> Outcome<Value>
-    ensures worked { (statics : List (List Cell)) → left_with result (store (classes_of program.now) heap.new statics)
-        ≡ on_some (slice_get heap.old number) (stored_in (store (classes_of program.now) heap.old statics) kind index value number) }
+    ensures worked { (statics : List (List Cell)) → left_with result (store (classes_of linked.now) heap.new statics)
+        ≡ on_some (slice_get heap.old number) (stored_in (store (classes_of linked.now) heap.old statics) kind index value number) }
     ensures kept { KeptUnlessFine result heap.old heap.new }
 {
     let Some(thing) = heap.thing(number) else {
         return Outcome::Wrong;
     };
-    match cell_in(program, heap, kind, thing, index, value) {
+    match cell_in(linked, heap, kind, thing, index, value) {
         Outcome::Fine(at) => {
             heap.set(number, at, value);
             Outcome::Fine(Value::Null)
@@ -301,15 +298,15 @@ fn write_element(
 
 // `iastore`, `bastore` and `aastore`.
 pub(crate) fn put_element(
-    program: &Program,
+    linked: &Linked,
     kind: ElementKind,
     array: Value,
     index: Value,
     value: Value,
     heap: &mut Heap,
 ) -> Outcome<Value>
-    ensures worked { (file : File) (statics : List (List Cell)) → left_with result (store (classes_of program.now) heap.new statics)
-        ≡ effected file (PutElement kind array index value) (store (classes_of program.now) heap.old statics) }
+    ensures worked { (file : File) (statics : List (List Cell)) → left_with result (store (classes_of linked.now) heap.new statics)
+        ≡ effected file (PutElement kind array index value) (store (classes_of linked.now) heap.old statics) }
     ensures kept { KeptUnlessFine result heap.old heap.new }
 {
     let Value::Int(index) = index else {
@@ -319,7 +316,7 @@ pub(crate) fn put_element(
         return Outcome::Wrong;
     }
     match array {
-        Value::Ref(number) => write_element(program, kind, number, index, value, heap),
+        Value::Ref(number) => write_element(linked, kind, number, index, value, heap),
         Value::Null => Outcome::Trap(TrapKind::NullReference),
         _ => Outcome::Wrong,
     }

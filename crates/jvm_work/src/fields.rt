@@ -1,4 +1,7 @@
-ghost use Rattle.std.specs.Prelude.{◌≡◌, ◌<◌, List, length};
+ghost use Rattle.std.specs.Prelude.{◌≡◌, ◌<◌, true, false, List, length, Some, slice_get};
+ghost use Rattle.class_form.specs.declared.class_file.ClassFile.{ClassFile as File};
+ghost use Rattle.jp_store.specs.Classes.{Class};
+ghost use Rattle.jvm_link.specs.Links.{field_named};
 ghost use Rattle.std.specs.Option.{option_map};
 ghost use Rattle.jp_store.specs.declared.value.Value.{Value as Cell};
 ghost use Rattle.jp_store.specs.declared.heap.Thing.{Thing as Made};
@@ -9,13 +12,12 @@ ghost use Rattle.jp_store.specs.Work as work;
 ghost use Rattle.jp_store.specs.Work.{answers, changed, on_thing};
 ghost use Rattle.jvm_load.specs.FileClasses.{classes_of};
 ghost use Rattle.jvm_load.specs.Fields.{found_at};
-ghost use Rattle.jvm_step.specs.declared.act.Effect.TheVariants.{GetField, PutField, GetStatic, PutStatic};
-ghost use Rattle.jvm_work.specs.Effects.{effected, store, left_with, KeptUnlessFine};
+ghost use Rattle.jvm_work.specs.Effects.{field_read, field_written, static_read, static_written, store, left_with, KeptUnlessFine};
 
-use class_form::ClassFile;
 use jp_store::{Heap, Outcome, Thing, TrapKind, Value};
+use jvm_link::Linked;
 use jvm_load::{FieldPlace, Program};
-use jvm_step::{Statics, field_name, has_kind};
+use jvm_step::{Statics, has_kind};
 
 fn or_wrong(value: Option<Value>) -> Outcome<Value>
     ensures { result ≡ on_some value Fine }
@@ -67,22 +69,20 @@ fn read_field(program: &Program, place: FieldPlace, object: Value, heap: &Heap) 
 
 // `getfield` (JVM specification, second edition, chapter 6).
 pub(crate) fn get_field(
-    program: &Program,
-    file: &ClassFile,
+    linked: &Linked,
+    at: u32,
     index: u16,
     object: Value,
     heap: &Heap,
 ) -> Outcome<Value>
-    ensures { (statics : List (List Cell)) → left_with result (store (classes_of program.now) heap.now statics)
-        ≡ effected file.now (GetField object index) (store (classes_of program.now) heap.now statics) }
+    ensures { (file : File) (statics : List (List Cell)) → slice_get linked.now at ≡ Some file
+        → left_with result (store (classes_of linked.now) heap.now statics)
+        ≡ field_read (field_named false linked.now file index) object (store (classes_of linked.now) heap.now statics) }
 {
-    let Some(field) = field_name(file, index) else {
+    let Some(place) = linked.field(at, index) else {
         return Outcome::Wrong;
     };
-    let Some(place) = program.field_of(false, field.class, field.name, field.descriptor) else {
-        return Outcome::Wrong;
-    };
-    read_field(program, place, object, heap)
+    read_field(linked.program(), place, object, heap)
 }
 
 fn write_field(
@@ -114,68 +114,61 @@ fn write_field(
     }
 }
 
-// `putfield`.
-pub(crate) fn put_field(
+fn write_fitting(
     program: &Program,
-    file: &ClassFile,
-    index: u16,
+    place: FieldPlace,
     object: Value,
     value: Value,
     heap: &mut Heap,
 ) -> Outcome<Value>
+    requires { place.class < length program.now }
     ensures worked { (statics : List (List Cell)) → left_with result (store (classes_of program.now) heap.new statics)
-        ≡ effected file.now (PutField object index value) (store (classes_of program.now) heap.old statics) }
+        ≡ field_written (Some (found_at place)) object value (store (classes_of program.now) heap.old statics) }
     ensures kept { KeptUnlessFine result heap.old heap.new }
 {
-    let Some(field) = field_name(file, index) else {
-        return Outcome::Wrong;
-    };
-    let Some(place) = program.field_of(false, field.class, field.name, field.descriptor) else {
-        return Outcome::Wrong;
-    };
     if !has_kind(place.kind, value) {
         return Outcome::Wrong;
     }
     write_field(program, place, object, value, heap)
 }
 
-// `getstatic`.
-pub(crate) fn get_static(
-    program: &Program,
-    file: &ClassFile,
+// `putfield`.
+pub(crate) fn put_field(
+    linked: &Linked,
+    at: u32,
     index: u16,
-    statics: &Statics,
+    object: Value,
+    value: Value,
+    heap: &mut Heap,
 ) -> Outcome<Value>
-    ensures { (heap : List Made) → left_with result (store (classes_of program.now) heap statics.now)
-        ≡ effected file.now (GetStatic index) (store (classes_of program.now) heap statics.now) }
+    ensures worked { (file : File) (statics : List (List Cell)) → slice_get linked.now at ≡ Some file
+        → left_with result (store (classes_of linked.now) heap.new statics)
+        ≡ field_written (field_named false linked.now file index) object value (store (classes_of linked.now) heap.old statics) }
+    ensures kept { KeptUnlessFine result heap.old heap.new }
 {
-    let Some(field) = field_name(file, index) else {
+    let Some(place) = linked.field(at, index) else {
         return Outcome::Wrong;
     };
-    let Some(place) = program.field_of(true, field.class, field.name, field.descriptor) else {
+    write_fitting(linked.program(), place, object, value, heap)
+}
+
+// `getstatic`.
+pub(crate) fn get_static(linked: &Linked, at: u32, index: u16, statics: &Statics) -> Outcome<Value>
+    ensures { (file : File) (heap : List Made) → slice_get linked.now at ≡ Some file
+        → left_with result (store (classes_of linked.now) heap statics.now)
+        ≡ static_read (field_named true linked.now file index) (store (classes_of linked.now) heap statics.now) }
+{
+    let Some(place) = linked.static_field(at, index) else {
         return Outcome::Wrong;
     };
     or_wrong(statics.get(place.class, place.slot))
 }
 
-// `putstatic`.
-pub(crate) fn put_static(
-    program: &Program,
-    file: &ClassFile,
-    index: u16,
-    value: Value,
-    statics: &mut Statics,
-) -> Outcome<Value>
-    ensures worked { (heap : List Made) → left_with result (store (classes_of program.now) heap statics.new)
-        ≡ effected file.now (PutStatic index value) (store (classes_of program.now) heap statics.old) }
+fn write_static(place: FieldPlace, value: Value, statics: &mut Statics) -> Outcome<Value>
+    ensures worked { (classes : List Class) (heap : List Made) → left_with result (store classes heap statics.new)
+        ≡ static_written (Some (found_at place)) value (store classes heap statics.old) }
     ensures kept { KeptUnlessFine result statics.old statics.new }
 {
-    let Some(field) = field_name(file, index) else {
-        return Outcome::Wrong;
-    };
-    let Some(place) = program.field_of(true, field.class, field.name, field.descriptor) else {
-        return Outcome::Wrong;
-    };
     if !has_kind(place.kind, value) {
         return Outcome::Wrong;
     }
@@ -184,4 +177,23 @@ pub(crate) fn put_static(
     } else {
         Outcome::Wrong
     }
+}
+
+// `putstatic`.
+pub(crate) fn put_static(
+    linked: &Linked,
+    at: u32,
+    index: u16,
+    value: Value,
+    statics: &mut Statics,
+) -> Outcome<Value>
+    ensures worked { (file : File) (heap : List Made) → slice_get linked.now at ≡ Some file
+        → left_with result (store (classes_of linked.now) heap statics.new)
+        ≡ static_written (field_named true linked.now file index) value (store (classes_of linked.now) heap statics.old) }
+    ensures kept { KeptUnlessFine result statics.old statics.new }
+{
+    let Some(place) = linked.static_field(at, index) else {
+        return Outcome::Wrong;
+    };
+    write_static(place, value, statics)
 }

@@ -1,4 +1,5 @@
-ghost use Rattle.std.specs.Prelude.{◌≡◌, ◌||◌, not, List, length, IfOk, OnErr};
+ghost use Rattle.std.specs.Prelude.{◌≡◌, ◌||◌, not, List, length, Some, IfOk, OnErr, slice_get};
+ghost use Rattle.class_form.specs.declared.class_file.ClassFile.{ClassFile as File};
 ghost use Rattle.jp_store.specs.Arith as arith;
 ghost use Rattle.jp_store.specs.declared.value.Value.{Value as Cell};
 ghost use Rattle.jp_store.specs.declared.heap.Thing.TheVariants.{Object};
@@ -8,11 +9,12 @@ ghost use Rattle.jp_store.specs.Work as work;
 ghost use Rattle.jp_store.specs.Work.{answers, made};
 ghost use Rattle.jvm_load.specs.FileClasses.{class_of, classes_of};
 ghost use Rattle.jvm_load.specs.Fields.{IsAmongFirst};
-ghost use Rattle.jvm_step.specs.declared.act.Effect.TheVariants.{MakeObject, CheckCast, InstanceOf};
-ghost use Rattle.jvm_work.specs.Effects.{effected, store, left_with, KeptUnlessFine};
+ghost use Rattle.jvm_link.specs.Links.{class_named};
+ghost use Rattle.jvm_work.specs.Effects.{object_made, instance_tested, casted, store, left_with, KeptUnlessFine};
 
-use class_form::{ClassFile, class_name};
+use class_form::ClassFile;
 use jp_store::{ClassAt, Heap, Outcome, Thing, TrapKind, Value};
+use jvm_link::Linked;
 use jvm_load::{Program, has_flag};
 use std::alloc::{AllocError, Global};
 
@@ -68,30 +70,43 @@ fn new_object(
     make_thing(heap, Thing::Object(class, fields))
 }
 
-// `new` (JVM specification, second edition, chapter 6). The error is want of memory.
-pub(crate) fn make_object(
+fn make_concrete(
     alloc: Global,
     program: &Program,
-    file: &ClassFile,
-    index: u16,
+    class: ClassAt,
     heap: &mut Heap,
 ) -> Result<Outcome<Value>, AllocError>
+    requires { IsAmongFirst (length program.now) class }
     ensures worked { (statics : List (List Cell)) → IfOk result (λ outcome.
         left_with outcome (store (classes_of program.now) heap.new statics)
-        ≡ effected file.now (MakeObject index) (store (classes_of program.now) heap.old statics)) }
+        ≡ object_made (Some class) (store (classes_of program.now) heap.old statics)) }
     ensures kept { IfOk result (λ outcome. KeptUnlessFine outcome heap.old heap.new) }
     ensures no_memory { OnErr result (heap.new ≡ heap.old) }
 {
-    let Some(name) = class_name(file, index) else {
-        return Ok(Outcome::Wrong);
-    };
-    let Some(class) = program.class_at(name) else {
-        return Ok(Outcome::Wrong);
-    };
     if !is_concrete(program, class) {
         return Ok(Outcome::Wrong);
     }
     new_object(alloc, program, class, heap)
+}
+
+// `new` (JVM specification, second edition, chapter 6). The error is want of memory.
+pub(crate) fn make_object(
+    alloc: Global,
+    linked: &Linked,
+    at: u32,
+    index: u16,
+    heap: &mut Heap,
+) -> Result<Outcome<Value>, AllocError>
+    ensures worked { (file : File) (statics : List (List Cell)) → slice_get linked.now at ≡ Some file → IfOk result (λ outcome.
+        left_with outcome (store (classes_of linked.now) heap.new statics)
+        ≡ object_made (class_named linked.now file index) (store (classes_of linked.now) heap.old statics)) }
+    ensures kept { IfOk result (λ outcome. KeptUnlessFine outcome heap.old heap.new) }
+    ensures no_memory { OnErr result (heap.new ≡ heap.old) }
+{
+    let Some(class) = linked.class(at, index) else {
+        return Ok(Outcome::Wrong);
+    };
+    make_concrete(alloc, linked.program(), class, heap)
 }
 
 // Whether an object or array is one of the class or of one below it. Arrays are objects.
@@ -146,45 +161,48 @@ fn instance_truth(program: &Program, up: ClassAt, heap: &Heap, value: Value) -> 
 
 // `instanceof`.
 pub(crate) fn instance_of(
-    program: &Program,
-    file: &ClassFile,
+    linked: &Linked,
+    at: u32,
     index: u16,
     value: Value,
     heap: &Heap,
 ) -> Outcome<Value>
-    ensures { (statics : List (List Cell)) → left_with result (store (classes_of program.now) heap.now statics)
-        ≡ effected file.now (InstanceOf index value) (store (classes_of program.now) heap.now statics) }
+    ensures { (file : File) (statics : List (List Cell)) → slice_get linked.now at ≡ Some file
+        → left_with result (store (classes_of linked.now) heap.now statics)
+        ≡ instance_tested (class_named linked.now file index) value (store (classes_of linked.now) heap.now statics) }
 {
-    let Some(name) = class_name(file, index) else {
+    let Some(up) = linked.class(at, index) else {
         return Outcome::Wrong;
     };
-    let Some(up) = program.class_at(name) else {
-        return Outcome::Wrong;
-    };
-    instance_truth(program, up, heap, value)
+    instance_truth(linked.program(), up, heap, value)
 }
 
-// `checkcast`.
-pub(crate) fn check_cast(
-    program: &Program,
-    file: &ClassFile,
-    index: u16,
-    value: Value,
-    heap: &Heap,
-) -> Outcome<Value>
+fn cast_to(program: &Program, up: ClassAt, value: Value, heap: &Heap) -> Outcome<Value>
     ensures { (statics : List (List Cell)) → left_with result (store (classes_of program.now) heap.now statics)
-        ≡ effected file.now (CheckCast index value) (store (classes_of program.now) heap.now statics) }
+        ≡ casted (Some up) value (store (classes_of program.now) heap.now statics) }
 {
-    let Some(name) = class_name(file, index) else {
-        return Outcome::Wrong;
-    };
-    let Some(up) = program.class_at(name) else {
-        return Outcome::Wrong;
-    };
     match is_null_or_instance(program, up, heap, value) {
         Outcome::Fine(true) => Outcome::Fine(value),
         Outcome::Fine(false) => Outcome::Trap(TrapKind::BadCast),
         Outcome::Trap(kind) => Outcome::Trap(kind),
         Outcome::Wrong => Outcome::Wrong,
     }
+}
+
+// `checkcast`.
+pub(crate) fn check_cast(
+    linked: &Linked,
+    at: u32,
+    index: u16,
+    value: Value,
+    heap: &Heap,
+) -> Outcome<Value>
+    ensures { (file : File) (statics : List (List Cell)) → slice_get linked.now at ≡ Some file
+        → left_with result (store (classes_of linked.now) heap.now statics)
+        ≡ casted (class_named linked.now file index) value (store (classes_of linked.now) heap.now statics) }
+{
+    let Some(up) = linked.class(at, index) else {
+        return Outcome::Wrong;
+    };
+    cast_to(linked.program(), up, value, heap)
 }

@@ -4,6 +4,7 @@ ghost use Rattle.jvm_load.specs.Loadable.{IsLoadableFile};
 use crate::carry_out;
 use class_form::{Bytes, ClassFile, Const, MemberInfo};
 use jp_store::{ElementKind, Heap, Outcome, TrapKind, Value};
+use jvm_link::link;
 use jvm_load::{Program, load};
 use jvm_step::{Effect, Statics};
 use sqlite_items::Items;
@@ -121,15 +122,14 @@ fn is_same(found: Outcome<Value>, wanted: Outcome<Value>) -> bool {
 // How many effects, carried out one after another, come to what they should.
 fn count_good(alloc: Global, cases: &[(Effect, Outcome<Value>)]) -> Result<usize, AllocError> {
     let program = program(alloc)?;
+    let linked = link(alloc, &program)?;
     let mut heap = Heap::new(alloc);
     let mut statics = Statics::new(program.first_statics(alloc)?);
     let mut good: usize = 0;
     for (effect, wanted) in cases {
-        if let Some(file) = program.file(0) {
-            let found = carry_out(alloc, &program, file, *effect, &mut heap, &mut statics)?;
-            if is_same(found, *wanted) {
-                good = good.saturating_add(1);
-            }
+        let found = carry_out(alloc, &linked, 0, *effect, &mut heap, &mut statics)?;
+        if is_same(found, *wanted) {
+            good = good.saturating_add(1);
         }
     }
     Ok(good)

@@ -1,3 +1,4 @@
 pub mod Steps
 pub mod Room
 pub mod Joins
+pub mod Walking

@@ -13,6 +13,9 @@ use Rattle.jvm_step.specs.declared.value.Halt.TheVariants.{Done, Trapped, NoRow}
 use Rattle.jvm_step.specs.declared.state.State.{State}
 use Rattle.jvm_step.specs.Turn.{Turn, Goes, Shows, Wants, Stops, turn_of}
 use Rattle.jvm_step.specs.Run.{Finish, Passes, Ran, Stopped, Tells, start, from_start, machine_run, end_of, on_turn, exec, on_way, behind, first_of, rest_of, with_read}
+use Rattle.std.proofs.lemmas.Option.{same_Some}
+use Rattle.jvm_quick.specs.Walks.{gone_by}
+use Rattle.jvm_quick.proofs.Walked.{gone_zero, one_before}
 use Rattle.mini_jvm.specs.Memory.{StoppedAt}
 use Rattle.mini_jvm.specs.Reading.{ReadsNumber}
 
@@ -178,6 +181,24 @@ module _ (files : List ClassFile) where
     told = r.told;
     added = r.added;
   }
+
+  -- behind turns that only go on
+  pub reached_gone : (n i : ℕ) (first now last : State) (ended : Bool) (old left before taken : Option (List ℕ)) → Reached files i first now ended old left before taken → gone_by files n now ≡ Some last → Reached files (i + n) first last ended old left before taken
+  reached_gone zero i first now last ended old left before taken r e =
+      let same : now ≡ last = same_Some now last (sym (gone_zero files now) ∙ e) in
+      let k : i ≡ i + 0 = omega arith in
+      subst (λ (s : State). Reached files (i + 0) first s ended old left before taken) same
+      (subst (λ (j : ℕ). Reached files j first now ended old left before taken) k r)
+  reached_gone (suc n) i first now last ended old left before taken r e =
+      let b = one_before files n now last e in
+      let k : (i + n) + 1 ≡ i + suc n = omega arith in
+      subst (λ (j : ℕ). Reached files j first last ended old left before taken) k
+      (reached_goes (i + n) first b.0 last ended old left before taken (reached_gone n i first now b.0 ended old left before taken r b.1) b.2)
+
+  pub reached_sum : (i n : ℕ) (first now : State) (ended : Bool) (old left before taken : Option (List ℕ)) → Reached files ((i + n) + 1) first now ended old left before taken → Reached files (i + (n + 1)) first now ended old left before taken
+  reached_sum i n first now ended old left before taken r =
+      let k : (i + n) + 1 ≡ i + (n + 1) = omega arith in
+      subst (λ (j : ℕ). Reached files j first now ended old left before taken) k r
 
   pub reached_shows : (i : ℕ) (first now next : State) (ended : Bool) (old left before taken taken' : Option (List ℕ)) (bytes : List ℕ) → Reached files i first now ended old left before taken → turn_of files now ≡ Shows bytes next → taken' ≡ append_known taken bytes → Reached files (i + 1) first next ended old left before taken'
   reached_shows i first now next ended old left before taken taken' bytes r e w = record {

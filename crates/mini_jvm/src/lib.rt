@@ -6,5 +6,6 @@ mod start;
 mod step;
 #[cfg(test)]
 mod tests;
+mod walk;
 
 pub use machine::run;

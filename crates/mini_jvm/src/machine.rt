@@ -4,17 +4,21 @@ ghost use Rattle.std.specs.Io.KnownBytes.{append_known};
 ghost use Rattle.jp_outside.specs.Bytes.{AppendsFront};
 ghost use Rattle.jp_outside.specs.Faults.{HasCause};
 ghost use Rattle.jvm_step.specs.Run.{class_in, method_in, end_of, start, Tells, Ran, Stopped, ReadCause, WriteCause};
+ghost use Rattle.jvm_quick.specs.Rows.{AreDecoded};
 ghost use Rattle.mini_jvm.specs.Memory.{StoppedAt};
 ghost use Rattle.mini_jvm.specs.Reading.{ReadsNumber};
 
 use crate::start::start_main;
-use crate::step::{Step, one_step};
+use crate::step::Step;
+use crate::walk::walk_on;
 use class_form::Bytes;
 use itoa::Buffer;
 use jp_outside::{Failed, Sink, Source, write_all};
 use jp_pred::Name;
 use jp_store::Value;
+use jvm_link::{Linked, link};
 use jvm_load::{Program, name_of, text};
+use jvm_quick::{Decoded, decode};
 use jvm_step::{End, Halt, State};
 use std::alloc::{AllocError, Global};
 
@@ -53,8 +57,10 @@ pub fn run<I: Source, O: Sink>(
         (λ end. WriteCause end (O.faults out.old) (O.faults out.new))
         (λ _. O.faults out.new ≡ O.faults out.old) }
 {
+    let linked = link(alloc, program)?;
+    let decoded = decode(alloc, program)?;
     match start_main(alloc, program, main.bytes())? {
-        Some(state) => execute(alloc, program, state, limit, input, out),
+        Some(state) => execute(alloc, &linked, &decoded, state, limit, input, out),
         None => Ok(End::BadCode {
             class: Bytes::from_bytes(alloc, main.bytes())?,
             method: Bytes::from_bytes(alloc, b"main")?,
@@ -66,18 +72,20 @@ pub fn run<I: Source, O: Sink>(
 // The run from a state on.
 fn execute<I: Source, O: Sink>(
     alloc: Global,
-    program: &Program,
+    linked: &Linked,
+    decoded: &Decoded,
     mut state: State,
     limit: u64,
     input: &mut I,
     out: &mut O,
 ) -> Result<End, AllocError>
-    ensures ran { (main : List ℕ) → start program.now main ≡ Some state → IfOk result (λ end. (bytes : List ℕ) × Tells (I.left input.old) bytes
-        × Ran program.now main limit bytes end (I.left input.new) (O.taken out.old) (O.taken out.new)) }
-    ensures stopped { (main : List ℕ) → start program.now main ≡ Some state → (bytes : List ℕ) × Tells (I.left input.old) bytes
-        × Stopped program.now main limit bytes (O.taken out.old) (O.taken out.new) }
-    ensures wanting { (main : List ℕ) → start program.now main ≡ Some state → OnErr result ((bytes : List ℕ) × Tells (I.left input.old) bytes
-        × StoppedAt program.now main limit bytes (I.left input.new) (O.taken out.old) (O.taken out.new)) }
+    requires { AreDecoded linked.now decoded.now }
+    ensures ran { (main : List ℕ) → start linked.now main ≡ Some state → IfOk result (λ end. (bytes : List ℕ) × Tells (I.left input.old) bytes
+        × Ran linked.now main limit bytes end (I.left input.new) (O.taken out.old) (O.taken out.new)) }
+    ensures stopped { (main : List ℕ) → start linked.now main ≡ Some state → (bytes : List ℕ) × Tells (I.left input.old) bytes
+        × Stopped linked.now main limit bytes (O.taken out.old) (O.taken out.new) }
+    ensures wanting { (main : List ℕ) → start linked.now main ≡ Some state → OnErr result ((bytes : List ℕ) × Tells (I.left input.old) bytes
+        × StoppedAt linked.now main limit bytes (I.left input.new) (O.taken out.old) (O.taken out.new)) }
     ensures tells { is_some (I.left input.new) ≡ is_some (I.left input.old) }
     ensures read_cause { MatchResult result
         (λ end. ReadCause end (I.faults input.old) (I.faults input.new))
@@ -87,8 +95,11 @@ fn execute<I: Source, O: Sink>(
         (λ _. O.faults out.new ≡ O.faults out.old) }
 {
     let mut ended = false;
-    for _i in 0..limit {
-        match one_step(alloc, program, &mut state)? {
+    let mut done: u64 = 0;
+    'turns: while done < limit {
+        let walk = walk_on(alloc, linked, decoded, limit - done, &mut state)?;
+        done += walk.count + 1;
+        match walk.step {
             Step::Move => {}
             Step::PrintInt(n) => {
                 if print(out, n).is_err() {
@@ -106,7 +117,7 @@ fn execute<I: Source, O: Sink>(
                 }
                 Err(_) => return Ok(End::ReadFault),
             },
-            Step::Stop(halt) => return halted(alloc, program, halt),
+            Step::Stop(halt) => return halted(alloc, linked.program(), halt),
         }
     }
     Ok(End::Cut)

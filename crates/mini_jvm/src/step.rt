@@ -1,4 +1,4 @@
-ghost use Rattle.std.specs.Prelude.{◌≡◌, ℕ, List, None, Some, IfOk, MatchOption};
+ghost use Rattle.std.specs.Prelude.{◌≡◌, ℕ, List, None, Some, IfOk, MatchOption, slice_get};
 ghost use Rattle.jvm_table.specs.Constants.{literal_at};
 ghost use Rattle.jvm_table.specs.Act.{answered};
 ghost use Rattle.jvm_calls.specs.Passing.{at_place};
@@ -12,7 +12,7 @@ ghost use Rattle.mini_jvm.specs.Steps.{as_turn, row_turn};
 use class_form::ClassFile;
 use jp_store::{Outcome, Value};
 use jvm_calls::{Passed, call_interface, call_special, call_static, call_virtual, leave};
-use jvm_load::Program;
+use jvm_link::Linked;
 use jvm_step::{Effect, Halt, Left, State, hold, literal, one_instr};
 use jvm_table::Frame;
 use jvm_work::carry_out;
@@ -29,34 +29,41 @@ pub(crate) enum Step<'a> {
     Stop(Halt),
 }
 
-// Runs one instruction, with the store, calls and returns. The error is want of memory.
-pub(crate) fn one_step<'a>(
-    alloc: Global,
-    program: &'a Program,
-    state: &mut State,
-) -> Result<Step<'a>, AllocError>
-    ensures { IfOk result (λ step. as_turn step state.new ≡ turn.turn_of program.now state.old) }
+// There is no row for the instruction that runs.
+pub(crate) fn no_row_at<'a>(state: &State) -> Step<'a>
+    ensures { (now : Now) → as_turn result now ≡ turn.no_row state.now }
 {
-    let no_row = Halt::NoRow {
+    Step::Stop(Halt::NoRow {
         file: state.current.file,
         method: state.current.method,
         place: state.current.frame.place,
-    };
-    match row_step(alloc, program, state)? {
+    })
+}
+
+// Runs one instruction, with the store, calls and returns. The error is want of memory.
+pub(crate) fn one_step<'a>(
+    alloc: Global,
+    linked: &Linked<'a>,
+    state: &mut State,
+) -> Result<Step<'a>, AllocError>
+    ensures { IfOk result (λ step. as_turn step state.new ≡ turn.turn_of linked.now state.old) }
+{
+    let no_row = no_row_at(state);
+    match row_step(alloc, linked, state)? {
         Some(step) => Ok(step),
-        None => Ok(Step::Stop(no_row)),
+        None => Ok(no_row),
     }
 }
 
 // The same, if the table has a row for the instruction.
 fn row_step<'a>(
     alloc: Global,
-    program: &'a Program,
+    linked: &Linked<'a>,
     state: &mut State,
 ) -> Result<Option<Step<'a>>, AllocError>
-    ensures { IfOk result (λ step. row_turn state.old step state.new ≡ turn.turn_of program.now state.old) }
+    ensures { IfOk result (λ step. row_turn state.old step state.new ≡ turn.turn_of linked.now state.old) }
 {
-    let Some(file) = program.file(state.current.file) else {
+    let Some(file) = linked.program().file(state.current.file) else {
         return Ok(None);
     };
     let Some(method) = file.methods.get(state.current.method as usize) else {
@@ -65,32 +72,33 @@ fn row_step<'a>(
     let Some(left) = one_instr(file, method, &mut state.current.frame) else {
         return Ok(None);
     };
-    finish(alloc, program, file, left, state)
+    finish(alloc, linked, file, left, state)
 }
 
 // What is left to do after an instruction has done what it does on its own frame.
 fn finish<'a>(
     alloc: Global,
-    program: &'a Program,
+    linked: &Linked<'a>,
     file: &'a ClassFile,
     left: Left,
     state: &mut State,
 ) -> Result<Option<Step<'a>>, AllocError>
+    requires { slice_get linked.now state.old.current.file ≡ Some file.now }
     ensures { IfOk result (λ step. (place : ℕ) → row_turn (at_place place state.old) step state.new
-        ≡ turn.turn program.now (at_place place state.old) (left_to_do file.now left state.old.current.frame)) }
+        ≡ turn.turn linked.now (at_place place state.old) (left_to_do file.now left state.old.current.frame)) }
 {
     match left {
         Left::Next => Ok(Some(Step::Move)),
         Left::PrintInt(n) => Ok(Some(Step::PrintInt(n))),
         Left::PrintText(index) => Ok(print_text(file, index)),
         Left::ReadByte => Ok(Some(Step::Read)),
-        Left::Do(effect) => work(alloc, program, file, effect, state),
-        Left::CallVirtual(index) => Ok(pass(call_virtual(alloc, program, file, index, state)?)),
+        Left::Do(effect) => work(alloc, linked, file, effect, state),
+        Left::CallVirtual(index) => Ok(pass(call_virtual(alloc, linked, index, state)?)),
         Left::CallInterface(index, count) => Ok(pass(call_interface(
-            alloc, program, file, index, count, state,
+            alloc, linked, index, count, state,
         )?)),
-        Left::CallSpecial(index) => Ok(pass(call_special(alloc, program, file, index, state)?)),
-        Left::CallStatic(index) => Ok(pass(call_static(alloc, program, file, index, state)?)),
+        Left::CallSpecial(index) => Ok(pass(call_special(alloc, linked, index, state)?)),
+        Left::CallStatic(index) => Ok(pass(call_static(alloc, linked, index, state)?)),
         Left::Leave(value) => Ok(pass(leave(value, state))),
         Left::Trap(kind) => Ok(Some(Step::Stop(Halt::Trapped(kind)))),
     }
@@ -145,19 +153,21 @@ fn push_answer(effect: Effect, value: Value, frame: &mut Frame) -> Option<()>
 // Does what is left to be done on the store, and goes on with what it comes to.
 fn work<'a>(
     alloc: Global,
-    program: &'a Program,
+    linked: &Linked<'a>,
     file: &'a ClassFile,
     effect: Effect,
     state: &mut State,
 ) -> Result<Option<Step<'a>>, AllocError>
+    requires { slice_get linked.now state.old.current.file ≡ Some file.now }
     ensures { IfOk result (λ step. (place : ℕ) → row_turn (at_place place state.old) step state.new
-        ≡ turn.turn program.now (at_place place state.old) (done file.now effect state.old.current.frame)) }
+        ≡ turn.turn linked.now (at_place place state.old) (done file.now effect state.old.current.frame)) }
 {
     effects_are_turns();
+    let at = state.current.file;
     match carry_out(
         alloc,
-        program,
-        file,
+        linked,
+        at,
         effect,
         &mut state.heap,
         &mut state.statics,

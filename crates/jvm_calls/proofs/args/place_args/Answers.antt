@@ -1,4 +1,4 @@
-use Rattle.std.proofs.Common.{◌≡◌, ◌-◌, ◌≤◌, ◌∷◌, subst, arith}
+use Rattle.std.proofs.Common.{subst, arith}
 use Rattle.jvm_calls.proofs.Arguments.{Placing, placing_set}
 use Rattle.jvm_calls.proofs.args.place_args.Goals as goal
 

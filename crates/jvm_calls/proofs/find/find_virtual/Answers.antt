@@ -1,4 +1,4 @@
-use Rattle.std.proofs.Common.{◌≡◌, ◌≤◌, ℕ, length, Option, None, sym, ap, ◌∙◌, option_and_then, arith}
+use Rattle.std.proofs.Common.{◌≤◌, length, sym, ap, ◌∙◌, option_and_then, arith}
 use Rattle.jvm_load.specs.Methods.{find_method}
 use Rattle.jvm_calls.proofs.Lookups.{nowhere}
 use Rattle.jvm_calls.proofs.find.find_virtual.Goals as goal
