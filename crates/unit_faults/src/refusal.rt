@@ -1,0 +1,22 @@
+use jp_ast::Place;
+use jp_lexical::LexFault;
+use jp_read::SyntaxFault;
+use type_rules::TypeFault;
+use unit_limits::TooLarge;
+
+/// Why a unit is refused: the first of these that is so, in this order, but for the bytes of the text, which are counted
+/// before all.
+#[derive(Debug, Drop)]
+pub enum Refusal {
+    /// The text has no tokens, and this is its first lexical fault.
+    Lex(LexFault),
+    /// The text has tokens, and this is the first one with which no unit goes on.
+    Syntax(SyntaxFault),
+    /// The text, or the unit, has more of something than a unit may have.
+    TooLarge(TooLarge),
+    /// The unit breaks a rule of types, first at this place.
+    Type(TypeFault),
+    /// The unit breaks no rule and can't be run yet. The place is that of the first node, in the order of the text, that the
+    /// form of units that run lacks.
+    NotYet(Place),
+}
