@@ -1,10 +1,9 @@
 -- The class files of a plain unit are right for the program that it is.
-use Rattle.std.proofs.Common.{◌≡◌, ℕ, zero, suc, ◌*◌, ◌+◌, ◌≤◌, Bool, true, false, List, [], ◌∷◌, map, Option, Some, None, refl, sym, ap, ◌∙◌, subst, arith}
+use Rattle.std.proofs.Common.{◌≡◌, ℕ, Bool, true, false, List, [], ◌∷◌, Option, Some, None, refl, sym, ap, ◌∙◌, subst, arith}
 use Rattle.std.specs.Prelude.{cond, is_some, slice_get, option_and_then}
 use Rattle.std.proofs.lemmas.Bool.{false≢true}
 use Rattle.std.specs.Option.{option_map}
 use Rattle.class_form.specs.declared.class_file.ClassFile.{ClassFile}
-use Rattle.jp_pred.specs.declared.shape.Shape.{Shape}
 use Rattle.jp_pred.specs.Names.{Word, In, object, same}
 use Rattle.jp_pred.specs.Selection.{Body}
 use Rattle.jp_pred.proofs.Ascents.{same_refl}
@@ -12,7 +11,7 @@ use Rattle.jp_store.specs.Classes.{object_name}
 use Rattle.jp_meaning.specs.declared.unit.TypedUnit.{TypedUnit}
 use Rattle.jp_meaning.specs.declared.unit.TypedClass.{TypedClass}
 use Rattle.jp_meaning.specs.Does.{Method}
-use Rattle.jp_meaning.specs.Choice.{Choice, Selects, NoneIsTrue, NoneIsBest}
+use Rattle.jp_meaning.specs.Choice.{Selects}
 use Rattle.jp_meaning.specs.Classes.{Placed, placed as as_placed, is_static, methods_in, class_in, static_named, chain_of}
 use Rattle.jp_meaning.specs.Descriptors.{internal_name, word_of}
 use Rattle.jp_meaning.specs.Laws.{Begins}
@@ -21,7 +20,7 @@ use Rattle.jvm_step.specs.declared.state.State.{State}
 use Rattle.jvm_step.specs.Run.{machine_run, Passes}
 use Rattle.whole_program.specs.Right.{Bounds, Naming, IsRight, question_in}
 use Rattle.whole_program.specs.Fits.{EachCallFits}
-use Rattle.whole_program.specs.Headline.{is_lost, Tells, Reaches}
+use Rattle.whole_program.specs.Headline.{Tells, Reaches}
 use Rattle.whole_program.proofs.Ahead.{headline, output_begins, enough}
 use Rattle.calls_fit.specs.Fitting.{ProgramFits}
 use Rattle.calls_fit.proofs.Members.{calls_fit}

@@ -1,14 +1,12 @@
 -- The classes of a unit that can be run are as the writer of class files asks.
 use Rattle.std.proofs.Common.{◌≡◌, ℕ, true, List, [], refl}
 use Rattle.std.specs.List.{list_all}
-use Rattle.jp_pred.specs.Names.{Word, In}
+use Rattle.jp_pred.specs.Names.{Word}
 use Rattle.jp_ast.specs.declared.decl.SourceUnit.{SourceUnit}
-use Rattle.jp_read.specs.Reads.{IsUnit}
 use Rattle.jp_meaning.specs.declared.unit.TypedUnit.{TypedUnit}
 use Rattle.jp_meaning.specs.Classes.{hier_in}
 use Rattle.jp_meaning.specs.Choice.{NoneIsTrue}
 use Rattle.jp_meaning.specs.Run.{Program}
-use Rattle.calls_fit.specs.Fitting.{ProgramFits}
 use Rattle.calls_fit.proofs.Named.{in_get}
 use Rattle.typed_fits.specs.Laws.{has_plain_names}
 use Rattle.typed_fits.proofs.ReadNames.{names_plain}

@@ -1,5 +1,5 @@
 -- The class files of classes.
-use Rattle.std.specs.Prelude.{◌≡◌, ℕ, List, [], ◌∷◌, Some, slice_get}
+use Rattle.std.specs.Prelude.{◌≡◌, ℕ, List, Some, slice_get}
 use Rattle.class_form.specs.declared.class_file.ClassFile.{ClassFile}
 use Rattle.class_form.specs.WellFormed.{WellFormed}
 use Rattle.jp_pred.specs.declared.hier.Hier.{Hier}

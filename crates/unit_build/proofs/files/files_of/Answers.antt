@@ -1,4 +1,4 @@
-use Rattle.std.proofs.Common.{◌≡◌, ℕ, ◌+◌, List, take, refl, sym, subst}
+use Rattle.std.proofs.Common.{◌+◌, List, take, refl, sym, subst}
 use Rattle.class_form.specs.declared.class_file.ClassFile.{ClassFile}
 use Rattle.jp_pred.specs.declared.hier.Hier.{Hier}
 use Rattle.jp_meaning.specs.Classes.{hier_in}

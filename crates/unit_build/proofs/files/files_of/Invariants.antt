@@ -1,4 +1,4 @@
-use Rattle.std.proofs.Common.{◌≡◌, take}
+use Rattle.std.proofs.Common.{take}
 use Rattle.jp_meaning.specs.Classes.{hier_in}
 use Rattle.gen_laws.specs.Compiled.{AreFilesOf}
 use Rattle.unit_build.specs.Files.{AreFormed}
