@@ -1,0 +1,5 @@
+pub mod Extending
+pub mod Adding
+pub mod Naming
+pub mod Soundness
+pub mod Fitting

@@ -1,0 +1,4 @@
+pub mod Growth
+pub mod Kinds
+pub mod Sound
+pub mod Texts
