@@ -94,6 +94,7 @@ stmt_step (stmt.Run value) = is_short_expr value
 abbrev pub is_short_stmt : TypedStmt → Bool
 is_short_stmt = fold-TypedStmt Bool Bool stmt_step (λ s. s.kind)
 
+-- a method without aliases, so that its code begins with its block
 abbrev pub has_no_aliases : IfaceMethod → Bool
 has_no_aliases method = nat_le (length method.aliases) 0
 
