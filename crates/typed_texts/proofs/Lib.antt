@@ -1,0 +1,10 @@
+pub mod ShortForms
+pub mod SeenShort
+pub mod FlowShort
+pub mod UnitShort
+pub mod ShortTokens
+pub mod SourceForms
+pub mod ReadExpressions
+pub mod ReadGuards
+pub mod ReadStatements
+pub mod ReadUnits
