@@ -1,0 +1,4 @@
+mod Calls
+mod Lines
+mod Reach
+mod Wholeness

@@ -1,0 +1,4 @@
+pub mod Above
+pub mod Bodies
+pub mod Laws
+pub mod Whole
