@@ -1,4 +1,8 @@
+mod Fitting
 mod Growing
+mod Grows
 mod Making
+mod Parts
+mod Refused
 mod Single
 mod Whole

@@ -45,6 +45,16 @@ module _ (hier : Hier) (head : Iface) (file : ClassFile) where
     by_name rest (Some name) [] h = absurd h
     by_name rest (Some name) (x ∷ xs) h = (h.0, rest xs h.1)
 
+  -- as many methods as there are members with statements
+  pub made_count : (ms : List TypedMember) (xs : List MemberInfo) → Made ms xs → length xs ≡ length (filter_map (λ m. name_of_part head m.part) ms)
+  made_count [] [] h = refl
+  made_count [] (x ∷ xs) h = absurd h
+  made_count (m ∷ ms) xs h = by_name (λ xs h. made_count ms xs h) (name_of_part head m.part) xs h where
+    by_name : ((xs : List MemberInfo) → Made ms xs → length xs ≡ length (filter_map (λ m. name_of_part head m.part) ms)) → (o : Option Name) (xs : List MemberInfo) → FirstIs (Is m) (Made ms) o xs → length xs ≡ length (cons_option o (filter_map (λ m. name_of_part head m.part) ms))
+    by_name rest None xs h = rest xs h
+    by_name rest (Some name) [] h = absurd h
+    by_name rest (Some name) (x ∷ xs) h = ap suc (rest xs h.1)
+
   -- the method of a member
   record Found (m : TypedMember) (xs : List MemberInfo) : Type 0 where
     index : ℕ

@@ -1,3 +1,5 @@
+pub mod Asked
+pub mod Excuses
 pub mod Files
 pub mod Flags
 pub mod Heads

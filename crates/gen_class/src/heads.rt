@@ -1,11 +1,14 @@
-ghost use Rattle.std.specs.Prelude.{◌≡◌, map, Some, IfOk};
+ghost use Rattle.std.specs.Prelude.{◌≡◌, true, map, Some, IfOk, IfErr, OnOk};
+ghost use Rattle.std.specs.List.{list_all};
 ghost use Rattle.std.specs.Option.{option_map_or};
 ghost use Rattle.class_form.specs.Constants.{utf8_at, class_name_at};
+ghost use Rattle.class_form.specs.WellFormed.{member_fits};
 ghost use Rattle.jp_store.specs.Classes.{object_name};
 ghost use Rattle.jp_meaning.specs.Descriptors.{internal_name, descriptor_of};
 ghost use Rattle.jp_meaning.specs.Classes.{field_of_head};
-ghost use Rattle.jvm_load.specs.FileClasses.{class_text_at, field_of_member};
-ghost use Rattle.code_asm.specs.Held.{Extends, InFiles};
+ghost use Rattle.jvm_load.specs.FileClasses.{field_of_member};
+ghost use Rattle.code_asm.specs.Held.{Extends, InFiles, Fails};
+ghost use Rattle.gen_class.specs.Asked.{with_text, with_class, with_superclass, with_classes, with_heading, with_field, with_fields};
 ghost use Rattle.gen_class.specs.Flags.{flag_if, class_flags, member_flags, field_flags};
 ghost use Rattle.gen_class.specs.Heads.{NamesClass};
 
@@ -70,6 +73,8 @@ pub(crate) struct Heading {
 pub(crate) fn put_heading(alloc: Global, pool: &mut Pool, head: &Iface) -> Result<Heading, AsmFault>
     ensures kept { Extends pool.old pool.new }
     ensures named { IfOk result (λ heading. InFiles pool.new (λ file. NamesClass head.now heading file)) }
+    ensures asked { OnOk result (pool.new ≡ with_heading pool.old head.now) }
+    ensures refused { IfErr result (λ fault. Fails fault (with_heading pool.old head.now)) }
 {
     let this_class = class_index(alloc, pool, &head.name)?;
     let super_class = superclass_index(alloc, pool, &head.superclass)?;
@@ -84,6 +89,8 @@ pub(crate) fn put_heading(alloc: Global, pool: &mut Pool, head: &Iface) -> Resul
 fn class_index(alloc: Global, pool: &mut Pool, name: &Name) -> Result<u16, AsmFault>
     ensures kept { Extends pool.old pool.new }
     ensures named { IfOk result (λ index. InFiles pool.new (λ file. class_name_at file index ≡ Some (internal_name name.now))) }
+    ensures asked { OnOk result (pool.new ≡ with_class pool.old name.now) }
+    ensures refused { IfErr result (λ fault. Fails fault (with_class pool.old name.now)) }
 {
     let name = internal_name(alloc, name)?;
     pool.class(alloc, name.as_slice())
@@ -96,6 +103,8 @@ fn superclass_index(
 ) -> Result<u16, AsmFault>
     ensures kept { Extends pool.old pool.new }
     ensures named { IfOk result (λ index. InFiles pool.new (λ file. class_name_at file index ≡ Some (option_map_or internal_name superclass.now object_name))) }
+    ensures asked { OnOk result (pool.new ≡ with_superclass pool.old superclass.now) }
+    ensures refused { IfErr result (λ fault. Fails fault (with_superclass pool.old superclass.now)) }
 {
     match superclass {
         Some(name) => class_index(alloc, pool, name),
@@ -105,7 +114,9 @@ fn superclass_index(
 
 fn interface_indices(alloc: Global, pool: &mut Pool, names: &[Name]) -> Result<Items<u16>, AsmFault>
     ensures kept { Extends pool.old pool.new }
-    ensures named { IfOk result (λ indices. InFiles pool.new (λ file. map (class_text_at file) indices ≡ map internal_name names.now)) }
+    ensures named { IfOk result (λ indices. InFiles pool.new (λ file. map (class_name_at file) indices ≡ map (λ name. Some (internal_name name)) names.now)) }
+    ensures asked { OnOk result (pool.new ≡ with_classes pool.old names.now) }
+    ensures refused { IfErr result (λ fault. Fails fault (with_classes pool.old names.now)) }
 {
     let mut indices = Items::new(alloc);
     for name in names {
@@ -123,6 +134,9 @@ pub(crate) fn fields_of(
     ensures kept { Extends pool.old pool.new }
     ensures named { IfOk result (λ members. InFiles pool.new (λ file. map (field_of_member file) members ≡ map field_of_head fields.now)) }
     ensures flagged { IfOk result (λ members. map (λ member. member.flags) members ≡ map field_flags fields.now) }
+    ensures fits { IfOk result (λ members. InFiles pool.new (λ file. list_all (member_fits file.constants) members ≡ true)) }
+    ensures asked { OnOk result (pool.new ≡ with_fields pool.old fields.now) }
+    ensures refused { IfErr result (λ fault. Fails fault (with_fields pool.old fields.now)) }
 {
     let mut members = Items::new(alloc);
     for field in fields {
@@ -135,6 +149,9 @@ fn field_of(alloc: Global, pool: &mut Pool, field: &IfaceField) -> Result<Member
     ensures kept { Extends pool.old pool.new }
     ensures named { IfOk result (λ member. InFiles pool.new (λ file. field_of_member file member ≡ field_of_head field.now)) }
     ensures flagged { IfOk result (λ member. member.flags ≡ field_flags field.now) }
+    ensures fits { IfOk result (λ member. InFiles pool.new (λ file. member_fits file.constants member ≡ true)) }
+    ensures asked { OnOk result (pool.new ≡ with_field pool.old field.now) }
+    ensures refused { IfErr result (λ fault. Fails fault (with_field pool.old field.now)) }
 {
     let name = pool.utf8(alloc, field.name.bytes())?;
     let descriptor = descriptor_index(alloc, pool, &field.ty)?;
@@ -150,6 +167,8 @@ fn field_of(alloc: Global, pool: &mut Pool, field: &IfaceField) -> Result<Member
 fn descriptor_index(alloc: Global, pool: &mut Pool, ty: &Ty) -> Result<u16, AsmFault>
     ensures kept { Extends pool.old pool.new }
     ensures named { IfOk result (λ index. InFiles pool.new (λ file. utf8_at file index ≡ Some (descriptor_of ty.now))) }
+    ensures asked { OnOk result (pool.new ≡ with_text pool.old (descriptor_of ty.now)) }
+    ensures refused { IfErr result (λ fault. Fails fault (with_text pool.old (descriptor_of ty.now))) }
 {
     let descriptor = field_descriptor(alloc, ty)?;
     pool.utf8(alloc, descriptor.as_slice())

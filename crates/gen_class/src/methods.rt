@@ -1,10 +1,13 @@
-ghost use Rattle.std.specs.Prelude.{◌≡◌, ◌++◌, [], map, Some, codes, IfOk, OnOk};
-ghost use Rattle.std.specs.List.{filter_map, cons_option};
+ghost use Rattle.std.specs.Prelude.{◌≡◌, ◌++◌, [], true, map, Some, codes, IfOk, IfErr, OnOk};
+ghost use Rattle.std.specs.List.{filter_map, cons_option, list_all};
 ghost use Rattle.std.specs.Option.{option_map};
 ghost use Rattle.jp_pred.specs.declared.ty.Ty.TheVariants as ty;
 ghost use Rattle.jp_meaning.specs.Descriptors.{method_descriptor};
-ghost use Rattle.code_asm.specs.Held.{Extends};
+ghost use Rattle.class_form.specs.WellFormed.{member_fits};
+ghost use Rattle.code_asm.specs.Held.{Extends, InFiles};
 ghost use Rattle.gen_laws.specs.Compiled.{name_of_method, name_of_part};
+ghost use Rattle.gen_class.specs.Asked.{with_member, with_members};
+ghost use Rattle.gen_class.specs.Excuses.{ExcusesMember, ExcusesMethods};
 ghost use Rattle.gen_class.specs.Flags.{flags_of_kind, flags_of_part};
 ghost use Rattle.gen_class.specs.Members.{IfWritten, EachWritten, HasSlots, CallsAreMeant, HasPlainTypes};
 ghost use Rattle.gen_class.specs.Made.{as_name, InClass, IsMade, AreMade, Adds};
@@ -44,6 +47,9 @@ pub(crate) fn methods_of(
     ensures kept { Extends pool.old pool.new }
     ensures made { IfOk result (λ methods. InClass class.now.head pool.new (λ file. AreMade hier.now class.now.head file class.now.members methods)) }
     ensures flagged { IfOk result (λ methods. map (λ method. method.flags) methods ≡ filter_map (λ m. flags_of_part class.now.head m.part) class.now.members) }
+    ensures fits { IfOk result (λ methods. InFiles pool.new (λ file. list_all (member_fits file.constants) methods ≡ true)) }
+    ensures asked { OnOk result (pool.new ≡ with_members hier.now class.now.head pool.old class.now.members) }
+    ensures refused { IfErr result (ExcusesMethods hier.now class.now pool.old) }
 {
     let mut methods = Items::new(alloc);
     for member in class.members.as_slice() {
@@ -67,6 +73,9 @@ fn put_method(
     ensures kept { Extends pool.old pool.new }
     ensures made { OnOk result (InClass class.now pool.new (Adds hier.now class.now member.now methods.old methods.new)) }
     ensures flagged { OnOk result (map (λ method. method.flags) methods.new ≡ map (λ method. method.flags) methods.old ++ cons_option (flags_of_part class.now member.now.part) []) }
+    ensures fits { OnOk result (InFiles pool.new (λ file. list_all (member_fits file.constants) methods.old ≡ true → list_all (member_fits file.constants) methods.new ≡ true)) }
+    ensures asked { OnOk result (pool.new ≡ with_member hier.now class.now pool.old member.now) }
+    ensures refused { IfErr result (ExcusesMember hier.now class.now pool.old member.now) }
 {
     match head_of_part(alloc, class, member.part)? {
         None => Ok(()),
@@ -94,6 +103,9 @@ fn method_of(
     ensures kept { Extends pool.old pool.new }
     ensures made { IfOk result (λ method. InClass class.now pool.new (λ file. IsMade hier.now class.now member.now file method)) }
     ensures flags { IfOk result (λ method. method.flags ≡ head.now.flags) }
+    ensures fits { IfOk result (λ method. InFiles pool.new (λ file. member_fits file.constants method ≡ true)) }
+    ensures asked { OnOk result (pool.new ≡ with_member hier.now class.now pool.old member.now) }
+    ensures refused { IfErr result (ExcusesMember hier.now class.now pool.old member.now) }
 {
     let name = pool.utf8(alloc, head.name.bytes())?;
     let descriptor = pool.utf8(alloc, head.descriptor.bytes())?;

@@ -3,4 +3,5 @@ mod Bare
 mod Compiles
 mod Doing
 mod Makes
+mod Sizes
 mod Wholly

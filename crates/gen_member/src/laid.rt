@@ -1,7 +1,10 @@
-ghost use Rattle.std.specs.Prelude.{◌+◌, ◌<◌, ◌≤◌, length, OnOk};
+ghost use Rattle.std.specs.Prelude.{◌≡◌, ◌+◌, ◌<◌, ◌≤◌, length, IfOk, OnOk};
 ghost use Rattle.gen_body.specs.Correct.{slots_of};
+ghost use Rattle.gen_body.specs.Members.{member_code};
 ghost use Rattle.code_asm.specs.Held.{Extends};
-ghost use Rattle.gen_member.specs.Laid.{CompilesMember};
+ghost use Rattle.code_asm.specs.Lines.{lines_of};
+ghost use Rattle.code_asm.specs.Written.{with_lines};
+ghost use Rattle.gen_member.specs.Laid.{CompilesMember, IsSized};
 
 use crate::members::put_member;
 use class_form::Code;
@@ -26,6 +29,8 @@ pub fn body_code(
     requires { slots_of head.now m.now.part ≤ m.now.locals }
     ensures kept { Extends pool.old pool.new }
     ensures few { OnOk result (1 + length pool.old < 65536 → 1 + length pool.new < 65536) }
+    ensures asked { OnOk result (pool.new ≡ with_lines pool.old (lines_of (member_code hier.now head.now m.now).items)) }
+    ensures sized { IfOk result (IsSized head.now m.now) }
     ensures compiled { CompilesMember hier.now head.now m.now pool.old pool.new result }
 {
     let mut code = Body {

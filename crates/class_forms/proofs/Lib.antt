@@ -1,0 +1,4 @@
+pub mod Sound
+pub mod Fitting
+pub mod Few
+pub mod Fit
