@@ -1,5 +1,5 @@
 -- Why a part of a class isn't made is why the whole isn't.
-use Rattle.std.proofs.Common.{◌≡◌, ℕ, ◌+◌, ◌<◌, ◌≤◌, true, Bool, false, List, [], ◌∷◌, length, take, get_or, Option, Some, None, Err, refl, sym, ap, ◌∙◌, subst, arith, inl, inr}
+use Rattle.std.proofs.Common.{◌≡◌, ℕ, ◌+◌, ◌<◌, ◌≤◌, true, List, [], length, take, get_or, Option, Some, None, Err, refl, sym, ap, ◌∙◌, subst, arith, inl, inr}
 use Rattle.std.specs.Prelude.{slice_get, option_and_then, is_some, codes}
 use Rattle.std.proofs.lemmas.List.Sums.{fold_more}
 use Rattle.class_form.specs.declared.constant.Const.{Const}
@@ -21,8 +21,8 @@ use Rattle.gen_code.specs.declared.fault.BodyFault.{BodyFault}
 use Rattle.gen_code.specs.declared.fault.BodyFault.TheVariants.{Unfit, Asm}
 use Rattle.gen_laws.specs.Compiled.{Name, name_of_method, name_of_part}
 use Rattle.gen_member.specs.Laid.{is_declared, CompilesMember}
-use Rattle.gen_class.specs.Asked.{with_text, with_name, with_class, with_heading, with_fields, with_method, with_member, with_members, front_constants, class_constants}
-use Rattle.gen_class.specs.Excuses.{ExcusesMember, SomeMember, ExcusesMethods, is_fit, Excuses}
+use Rattle.gen_class.specs.Asked.{with_text, with_name, with_heading, with_fields, with_method, with_member, with_members, front_constants, class_constants}
+use Rattle.gen_class.specs.Excuses.{ExcusesMember, ExcusesMethods, is_fit, Excuses}
 use Rattle.gen_class.proofs.Fitting.{fails_test}
 use Rattle.gen_class.proofs.Grows.{part_grows, one_class_grows, first_of_heading, first_of_member, front_of_member, member_grows, first_of_class, front_of_class, fails_more}
 

@@ -20,7 +20,6 @@ use Rattle.jp_meaning.specs.declared.unit.TypedPart.{TypedPart}
 use Rattle.jp_meaning.specs.declared.unit.TypedPart.TheVariants as part
 use Rattle.jp_meaning.specs.Descriptors.{kind_of_type}
 use Rattle.code_asm.specs.declared.line.Line.{Line}
-use Rattle.code_asm.specs.declared.fault.AsmFault.{AsmFault}
 use Rattle.code_asm.specs.declared.fault.AsmFault.TheVariants.{TooLong}
 use Rattle.code_asm.specs.Items.{Item, Plain, Uses, CallsInterface, Branch, Mark}
 use Rattle.code_asm.specs.Lines.{lines_of}

@@ -1,4 +1,4 @@
-use Rattle.std.proofs.Common.{Some, refl, subst, ap, ◌∙◌, List, ℕ}
+use Rattle.std.proofs.Common.{Some, refl}
 use Rattle.std.proofs.lemmas.Result.{err_from_is_err_and}
 use Rattle.class_form.specs.declared.member.MemberInfo.{MemberInfo}
 use Rattle.gen_class.specs.Made.{as_name}

@@ -1,6 +1,4 @@
-use Rattle.std.proofs.Common.{◌≡◌, ◌<◌, List, length, get_or, subst}
 use Rattle.std.proofs.lemmas.Result.{err_from_is_err_and}
-use Rattle.jp_meaning.specs.declared.unit.TypedMember.{TypedMember}
 use Rattle.gen_class.specs.Flags.{flags_of_part}
 use Rattle.gen_class.proofs.Fitting.{all_longer}
 use Rattle.gen_class.proofs.Growing.{grown}
