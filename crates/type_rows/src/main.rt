@@ -4,6 +4,7 @@
 //! text. `«N PART»`, in either, stands for N times PART. The answer is one of these:
 //! - `ok`, for a unit within its limits that breaks no rule of types;
 //! - `LINE:COLUMN: Rule R`, for the first rule that the unit breaks;
+//! - `LINE:COLUMN: NotYet`, for the first class outside itself that a unit names;
 //! - `TooLarge WHAT COUNT`, for a text or a unit that passes a limit;
 //! - `LINE:COLUMN: FAULT`, for a text that is no unit.
 #![tactic(auto)]

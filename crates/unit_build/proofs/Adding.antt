@@ -10,7 +10,8 @@ use Rattle.jp_pred.specs.declared.hier.Hier.{Hier}
 use Rattle.jp_meaning.specs.declared.unit.TypedClass.{TypedClass}
 use Rattle.jp_meaning.specs.Classes.{hier_in}
 use Rattle.gen_laws.specs.Compiled.{IsFileOf, AreFilesOf}
-use Rattle.unit_build.specs.Files.{IsWritable, AreWritable, AreFormed}
+use Rattle.gen_class.specs.Flags.{HasFlags}
+use Rattle.unit_build.specs.Files.{IsWritable, AreWritable, AreFlagged, AreFormed}
 
 -- one file more, of one class more
 files_more : (hier : Hier) (cs : List TypedClass) (files : List ClassFile) (most : ℕ) (c : TypedClass) (file : ClassFile) → AreFilesOf hier cs files most → IsFileOf hier c file most → AreFilesOf hier (cs ++ c ∷ []) (files ++ file ∷ []) most
@@ -18,6 +19,12 @@ files_more hier [] [] most c file h k = (k, tt)
 files_more hier [] (f ∷ files) most c file h k = absurd h
 files_more hier (d ∷ cs) [] most c file h k = absurd h
 files_more hier (d ∷ cs) (f ∷ files) most c file h k = (h.0, files_more hier cs files most c file h.1 k)
+
+flags_more : (cs : List TypedClass) (files : List ClassFile) (c : TypedClass) (file : ClassFile) → AreFlagged cs files → HasFlags c file → AreFlagged (cs ++ c ∷ []) (files ++ file ∷ [])
+flags_more [] [] c file h k = (k, tt)
+flags_more [] (f ∷ files) c file h k = absurd h
+flags_more (d ∷ cs) [] c file h k = absurd h
+flags_more (d ∷ cs) (f ∷ files) c file h k = (h.0, flags_more cs files c file h.1 k)
 
 some_is : {X : Type 0} (x y : X) → Some x ≡ Some y → x ≡ y
 some_is x y e = cc
@@ -34,6 +41,9 @@ module _ (cs : List TypedClass) (n i : ℕ) (c : TypedClass) (count : n ≡ leng
 
   pub compiled_more : (hier : Hier) (files : List ClassFile) (file : ClassFile) → AreFilesOf hier (take i cs) files 65536 → IsFileOf hier c file 65536 → AreFilesOf hier (take (i + 1) cs) (files ++ file ∷ []) 65536
   compiled_more hier files file h k = subst (λ (xs : List TypedClass). AreFilesOf hier xs (files ++ file ∷ []) 65536) (sym next_class) (files_more hier (take i cs) files 65536 c file h k)
+
+  pub flagged_more : (files : List ClassFile) (file : ClassFile) → AreFlagged (take i cs) files → HasFlags c file → AreFlagged (take (i + 1) cs) (files ++ file ∷ [])
+  flagged_more files file h k = subst (λ (xs : List TypedClass). AreFlagged xs (files ++ file ∷ [])) (sym next_class) (flags_more (take i cs) files c file h k)
 
   pub writable : (hier : Hier) → hier ≡ hier_in cs → AreWritable (hier_in cs) cs → IsWritable hier c
   writable hier e h = subst (λ (x : Hier). IsWritable x c) (sym e) (h i c (slice_get_read cs n i c count within is))

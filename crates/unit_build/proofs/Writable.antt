@@ -18,13 +18,13 @@ use Rattle.limit_laws.proofs.Units.{slots as has_slots}
 use Rattle.plain_laws.proofs.MembersApart.{members_apart}
 use Rattle.plain_sizes.proofs.Plain.{few_items}
 use Rattle.unit_check.specs.Texts.{IsSound}
-use Rattle.unit_build.specs.Form.{IsRunnable}
+use Rattle.unit_build.specs.Form.{HasForm}
 use Rattle.unit_build.specs.Files.{AreWritable}
 
-pub writable : (text : List ℕ) (unit : SourceUnit) (tree : TypedUnit) (main : Word) → IsSound text unit tree → IsRunnable unit main → AreWritable (hier_in tree.classes) tree.classes
-writable text unit tree main sound runs i c at =
+pub writable : (text : List ℕ) (unit : SourceUnit) (tree : TypedUnit) (main : Word) → IsSound text unit tree → HasForm unit main → AreWritable (hier_in tree.classes) tree.classes
+writable text unit tree main sound form i c at =
     let typed = sound.typed in
-    let is_unit = sound.is_within.read.is_unit in
+    let is_unit = sound.is_within.is_self_contained.read.is_unit in
     let plain : list_all has_plain_names unit.decls ≡ true = names_plain text is_unit.tokens unit is_unit.lexed is_unit.parsed in
     let ordinary : list_all has_ordinary_methods unit.decls ≡ true = methods_ordinary text is_unit.tokens unit is_unit.lexed is_unit.parsed in
     let program : Program = record { classes = tree.classes; main = main; select = λ q. NoneIsTrue } in
@@ -34,6 +34,6 @@ writable text unit tree main sound runs i c at =
       slots = λ j m g name n. has_slots unit [] tree typed c m there (in_get c.members j m g);
       meant = λ j m g name n. meant_members unit tree typed plain ordinary (hier_in tree.classes) c m there (in_get c.members j m g);
       signed = record { methods = fits.methods; constructors = fits.constructors };
-      apart = members_apart unit tree typed runs.plain.lone_bodies plain ordinary c there;
-      few = λ j m g name n. few_items unit [] tree typed sound.is_within.within runs.plain.no_guards (hier_in tree.classes) c m there (in_get c.members j m g);
+      apart = members_apart unit tree typed form.plain.lone_bodies plain ordinary c there;
+      few = λ j m g name n. few_items unit [] tree typed sound.is_within.within form.plain.no_guards (hier_in tree.classes) c m there (in_get c.members j m g);
     }

@@ -1,4 +1,4 @@
--- Which units can be run from the `main` of a class, and why others can't.
+-- Which units have the form of those whose classes can be written yet, with a class of some name, and where others lack it.
 use Rattle.std.specs.Prelude.{◌≡◌, Bool, true, false, not, ◌&&◌, ◌⊎◌, List, [], ◌∷◌, Some, Result, Ok, Err}
 use Rattle.std.specs.List.{list_any}
 use Rattle.jp_pred.specs.Names.{Word, same}
@@ -7,10 +7,6 @@ use Rattle.jp_ast.specs.declared.decl.Decl.{Decl}
 use Rattle.jp_ast.specs.declared.decl.SourceUnit.{SourceUnit}
 use Rattle.plain_form.specs.Forms.{IsPlain, lacks}
 use Rattle.plain_form.specs.Places.{first_place}
-use Rattle.plain_form.specs.Main.{has_main}
-use Rattle.unit_faults.specs.declared.refusal.Refusal.TheVariants.{NotYet, Lex, Syntax, TooLarge, «Type» as TypeFault}
-use Rattle.unit_build.specs.declared.fault.BuildErr.{BuildErr}
-use Rattle.unit_build.specs.declared.fault.BuildErr.TheVariants.{Refused, NoMain, OutOfMemory}
 
 -- a class, not an interface, of that name
 abbrev pub is_class_called : Word → Decl → Bool
@@ -27,35 +23,22 @@ first_name_in (d ∷ ds) = d.place
 abbrev pub first_name : SourceUnit → Place
 first_name unit = first_name_in unit.decls
 
--- The unit has no guards and no two bodies of one family, and the class of that name has a `main`
-pub record IsRunnable (unit : SourceUnit) (main : Word) : Type 0 where
-  pub plain : IsPlain unit
-  pub main_there : has_main unit main ≡ true
-
--- a unit of the form whose class has no `main`
-pub record LacksMain (unit : SourceUnit) (main : Word) : Type 0 where
+-- The unit has no guards and no two bodies of one family, and a class of that name
+pub record HasForm (unit : SourceUnit) (main : Word) : Type 0 where
   pub plain : IsPlain unit
   pub class : declares_class unit main ≡ true
-  pub no_main : has_main unit main ≡ false
 
--- a unit of the form without a class of that name
+-- a unit without guards and without two bodies of one family, that has no class of that name
 pub record LacksClass (unit : SourceUnit) (main : Word) : Type 0 where
   pub plain : IsPlain unit
   pub no_class : declares_class unit main ≡ false
-  pub no_main : has_main unit main ≡ false
 
 -- this is the first place of the unit that can't be run yet: a guard, or the name of a body behind another of its family; or the
 -- first name, where there is no class of the name that is asked for
 abbrev pub IsLack : SourceUnit → Word → Place → Type 0
 IsLack unit main place = (first_place (lacks unit) ≡ Some place) ⊎ (LacksClass unit main × (place ≡ first_name unit))
 
--- the unit can be run, or why it can't
-abbrev pub Runs : SourceUnit → Word → Result (Unit {0}) BuildErr → Type 0
-Runs unit main (Ok done) = IsRunnable unit main
-Runs unit main (Err NoMain) = LacksMain unit main
-Runs unit main (Err (Refused (NotYet place))) = IsLack unit main place
-Runs unit main (Err (Refused (Lex fault))) = ⊥
-Runs unit main (Err (Refused (Syntax fault))) = ⊥
-Runs unit main (Err (Refused (TooLarge over))) = ⊥
-Runs unit main (Err (Refused (TypeFault fault))) = ⊥
-Runs unit main (Err OutOfMemory) = ⊥
+-- the unit has the form, or lacks it at this place
+abbrev pub Suits : SourceUnit → Word → Result (Unit {0}) Place → Type 0
+Suits unit main (Ok done) = HasForm unit main
+Suits unit main (Err place) = IsLack unit main place

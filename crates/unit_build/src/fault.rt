@@ -1,8 +1,9 @@
 ghost use Rattle.std.specs.Prelude.{◌≡◌};
+ghost use Rattle.unit_faults.specs.declared.refusal.Refusal.TheVariants.{NotYet};
 ghost use Rattle.unit_build.specs.Building.{of_check_err};
-ghost use Rattle.unit_build.specs.declared.fault.BuildErr.TheVariants.{OutOfMemory};
+ghost use Rattle.unit_build.specs.declared.fault.BuildErr.TheVariants.{Refused};
 
-use std::alloc::AllocError;
+use jp_ast::Place;
 use unit_check::CheckErr;
 use unit_faults::Refusal;
 
@@ -11,8 +12,6 @@ use unit_faults::Refusal;
 pub enum BuildErr {
     /// The unit is refused.
     Refused(Refusal),
-    /// The unit has a class of the name that is asked for, and it declares no `main` that can be run.
-    NoMain,
     /// There was too little memory.
     OutOfMemory,
 }
@@ -28,10 +27,11 @@ impl From<CheckErr> for BuildErr {
     }
 }
 
-impl From<AllocError> for BuildErr {
-    ghost from_gives = { λ _ e. e ≡ OutOfMemory };
+/// A unit that can't be run yet, for what stands at a place.
+impl From<Place> for BuildErr {
+    ghost from_gives = { λ place e. e ≡ Refused (NotYet place) };
 
-    fn from(_: AllocError) -> BuildErr {
-        BuildErr::OutOfMemory
+    fn from(place: Place) -> BuildErr {
+        BuildErr::Refused(Refusal::NotYet(place))
     }
 }

@@ -1,6 +1,6 @@
 ghost use Rattle.std.specs.Prelude.{◌≡◌, map, string_bytes, IfOk};
 ghost use Rattle.jp_meaning.specs.Classes.{hier_in};
-ghost use Rattle.unit_build.specs.Files.{AreWritable, AreCompiled, AreFormed};
+ghost use Rattle.unit_build.specs.Files.{AreWritable, AreCompiled, AreFlagged, AreFormed};
 
 use class_form::ClassFile;
 use gen_class::{class_file, hier_of};
@@ -13,6 +13,7 @@ use std::alloc::Global;
 pub(crate) fn files_of(alloc: Global, classes: &[TypedClass]) -> Result<Items<ClassFile>, BodyFault>
     requires { AreWritable (hier_in classes.now) classes.now }
     ensures compiled { IfOk result (λ files. AreCompiled (hier_in classes.now) classes.now files) }
+    ensures flagged { IfOk result (λ files. AreFlagged classes.now files) }
     ensures formed { IfOk result (λ files. AreFormed files) }
 {
     let hier = hier_of(alloc, classes)?;

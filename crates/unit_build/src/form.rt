@@ -1,34 +1,23 @@
 ghost use Rattle.std.specs.Prelude.{◌≡◌};
-ghost use Rattle.unit_faults.specs.declared.refusal.Refusal.TheVariants.{NotYet};
-ghost use Rattle.unit_build.specs.declared.fault.BuildErr.TheVariants.{Refused};
-ghost use Rattle.unit_build.specs.Form.{is_class_called, declares_class, first_name, Runs};
+ghost use Rattle.unit_build.specs.Form.{is_class_called, declares_class, first_name, Suits};
 
-use crate::BuildErr;
 use jp_ast::{Decl, Place, SourceUnit};
 use jp_pred::Name;
-use plain_form::{first_lack, has_main};
-use unit_faults::Refusal;
+use plain_form::first_lack;
 
-/// Whether a unit can be run from a class's `main`, or why it can't.
-pub(crate) fn runs(unit: &SourceUnit, main: &Name) -> Result<(), BuildErr>
-    ensures { Runs unit.now main.now result }
+/// Whether a unit has the form of those whose classes can be written yet, with a class of this name, or the place at which
+/// it lacks that.
+pub(crate) fn suits(unit: &SourceUnit, main: &Name) -> Result<(), Place>
+    ensures { Suits unit.now main.now result }
 {
     if let Some(place) = first_lack(unit) {
-        return Err(not_yet(place));
-    }
-    if has_main(unit, main) {
-        return Ok(());
+        return Err(place);
     }
     if declares_class(unit, main) {
-        return Err(BuildErr::NoMain);
+        Ok(())
+    } else {
+        Err(first_name(unit))
     }
-    Err(not_yet(first_name(unit)))
-}
-
-fn not_yet(place: Place) -> BuildErr
-    ensures { result ≡ Refused (NotYet place) }
-{
-    BuildErr::Refused(Refusal::NotYet(place))
 }
 
 /// Whether the unit has a class of that name.

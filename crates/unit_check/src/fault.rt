@@ -11,7 +11,7 @@ use unit_limits::TooLarge;
 /// Why a text has no resolved tree.
 #[derive(Debug, Drop)]
 pub enum CheckErr {
-    /// It is refused. `NotYet` doesn't come.
+    /// It is refused. `NotYet` comes where it names a class outside itself.
     Refused(Refusal),
     /// There was too little memory.
     OutOfMemory,

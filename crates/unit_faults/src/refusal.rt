@@ -5,7 +5,7 @@ use type_rules::TypeFault;
 use unit_limits::TooLarge;
 
 /// Why a unit is refused: the first of these that is so, in this order, but for the bytes of the text, which are counted
-/// before all.
+/// before all, and for classes outside the unit, which are looked for as soon as it is read.
 #[derive(Debug, Drop)]
 pub enum Refusal {
     /// The text has no tokens, and this is its first lexical fault.
@@ -16,7 +16,7 @@ pub enum Refusal {
     TooLarge(TooLarge),
     /// The unit breaks a rule of types, first at this place.
     Type(TypeFault),
-    /// The unit breaks no rule and can't be run yet. The place is that of the first node, in the order of the text, that the
-    /// form of units that run lacks.
+    /// The unit can't be run yet: it names a class outside itself, first at this place; or it breaks no rule, and this is the
+    /// place of the first node, in the order of the text, that the form of units that run lacks.
     NotYet(Place),
 }

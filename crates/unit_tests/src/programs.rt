@@ -142,6 +142,7 @@ fn runs_so(rt: &impl Abort, alloc: Global, row: Row<'static>) -> Result<(), Fail
     let Ok(built) = build(alloc, &main, text.as_bytes()) else {
         return Err(Fail::from(text));
     };
+    assert!(rt; built.has_main);
     assert!(rt; built.files.len() < 1000);
     let program = load(alloc, built.files.as_slice())?;
     let mut source = MemSource::new(Vec::from_slice(alloc, input.as_bytes())?, Vec::new(alloc));

@@ -3,8 +3,8 @@ use Rattle.class_form.specs.declared.class_file.ClassFile.{ClassFile}
 use Rattle.jp_pred.specs.declared.hier.Hier.{Hier}
 use Rattle.jp_meaning.specs.Classes.{hier_in}
 use Rattle.gen_laws.specs.Compiled.{IsFileOf, AreFilesOf}
-use Rattle.unit_build.specs.Files.{AreFormed}
-use Rattle.unit_build.proofs.Adding.{compiled_more, formed_more, writable}
+use Rattle.unit_build.specs.Files.{AreFlagged, AreFormed}
+use Rattle.unit_build.proofs.Adding.{compiled_more, flagged_more, formed_more, writable}
 use Rattle.unit_build.proofs.files.files_of.Goals as goal
 
 pub class_file-requires-clause-slots : goal.class_file-requires-clause-slots
@@ -27,5 +27,7 @@ loop-class-preserved c =
     record {
       compiled = subst (λ (files : List ClassFile). AreFilesOf (hier_in c.args.classes.now) (take (c.loop-class.class-index + 1) c.args.classes.now) files 65536) (sym pushed.ok)
           (compiled_more c.args.classes.now _ c.loop-class.class-index c.class-item.result refl c.loop-class-test.true c.class-item.is (hier_in c.args.classes.now) c.loop-class.files c.in_ok-class_file.field-0 c.loop-class.invariant.compiled is);
+      flagged = subst (λ (files : List ClassFile). AreFlagged (take (c.loop-class.class-index + 1) c.args.classes.now) files) (sym pushed.ok)
+          (flagged_more c.args.classes.now _ c.loop-class.class-index c.class-item.result refl c.loop-class-test.true c.class-item.is c.loop-class.files c.in_ok-class_file.field-0 c.loop-class.invariant.flagged c.in_ok-class_file.ensures.flagged);
       formed = subst AreFormed (sym pushed.ok) (formed_more c.loop-class.files c.in_ok-class_file.field-0 c.loop-class.invariant.formed c.in_ok-class_file.ensures.formed);
     }
