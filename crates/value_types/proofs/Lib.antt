@@ -1,0 +1,10 @@
+pub mod Lists
+pub mod KindsOfValues
+pub mod Descriptors
+pub mod Stays
+pub mod Found
+pub mod Holding
+pub mod Going
+pub mod Fields
+pub mod Arrays
+pub mod Works

@@ -1,0 +1,4 @@
+pub mod Values
+pub mod Stores
+pub mod Work
+pub mod Laws
