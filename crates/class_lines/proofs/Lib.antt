@@ -1,0 +1,5 @@
+pub mod Standing
+pub mod Positions
+pub mod Below
+pub mod Widening
+pub mod Walks
